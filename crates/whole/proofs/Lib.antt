@@ -1,0 +1,5 @@
+pub mod Linear
+pub mod Order
+pub mod Size
+pub mod Quotients
+pub mod Bits
