@@ -3,7 +3,7 @@
 use mathlib.Core.Path.{_≡_, refl, sym, ap, _∙_}
 use mathlib.Core.Bool.{true, false, true≢false}
 use Prim.Native.Nat.{ℕ, suc, _+_, _-_, _*_, _/_, _≤_, _<_, zero-le}
-use native.Mathlib.Nat.{div-le-self, lt-of-le-of-lt, zero-div, mul-div-cancel, div-eq-of-lt-le, suc-mul}
+use native.Mathlib.Nat.{div-le-self, div-le-of-le-mul, mul-comm, div-lt-iff-lt-mul, lt-of-le-of-lt, zero-div, mul-div-cancel, div-eq-of-lt-le, suc-mul}
 use native.Mathlib.Numerals.{add-one}
 use native.Mathlib.Omega.{arith}
 use borrow.Author.Tests.{le-leb}
@@ -18,6 +18,10 @@ use Rattle.whole.proofs.Linear.{dif-law, eq-of}
 pub abs-floor : (z : ℤ) (m : ℕ) → natAbs (floor-of z m) ≤ natAbs z
 abs-floor (pos a) m = div-le-self a m
 abs-floor (negsuc a) m = let h = div-le-self a m in omega arith
+
+pub abs-floor-le : (z : ℤ) (m b : ℕ) → 0 < m → natAbs z ≤ b * m → natAbs (floor-of z m) ≤ b
+abs-floor-le (pos a) m b h l = div-le-of-le-mul m (rw (mul-comm m b) l)
+abs-floor-le (negsuc a) m b h l = div-lt-iff-lt-mul h .1 l
 
 -- ---- even divisions
 pub floor-none : (z : ℤ) (m : ℕ) → floor-of (z *ℤ pos 0) m ≡ pos 0

@@ -1,0 +1,12 @@
+pub mod ListLaws
+pub mod Tests
+pub mod OrderLaws
+pub mod Entries
+pub mod Back
+pub mod Picked
+pub mod Table
+pub mod Programme
+pub mod TieRule
+pub mod Unique
+pub mod Bounds
+pub mod Starred
