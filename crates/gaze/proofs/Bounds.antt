@@ -23,7 +23,7 @@ use Rattle.gaze.specs.Lists.{Each, Adjacent, keep}
 use Rattle.gaze.specs.Sheet.{Sheet, begin, end, candidates, candidate}
 use Rattle.gaze.specs.Penalty.{on-line, beyond, past, interpolated, intron-points, intron-penalty, points-of, penalty}
 use Rattle.gaze.specs.SegmentScore.{chosen, overlap, size, enters, largest, share, largest-share, rate, holds, rate-at, largest-rate, sum-over, summed-rates, segment-score}
-use Rattle.gaze.specs.Step.{distance, rule-of, qualifiers-of, region-score, gained, by-rule, gain}
+use Rattle.gaze.specs.Step.{distance, rule-of, of-pair, region-score, gained, by-rule, gain}
 use Rattle.gaze.specs.Ranges.{Within, Thousandths, PointRanges, QualifierRanges, SegmentRanges, FeatureRanges, Before, InOrder, qualifier-keys, InRange}
 use Rattle.gaze.proofs.ListLaws.{each-at, each-append, each-map, each-kept}
 use Rattle.gaze.proofs.OrderLaws.{order-rest, order-head}
@@ -73,15 +73,15 @@ unfolding intron-penalty Each
 intron-size d b =
     interpolated-size intron-points (min d 1023) (omega arith, (omega arith, (omega arith, (omega arith, (omega arith, tt))))) (omega arith)
 
-pub penalty-size : (sheet : Sheet) (function d : ℕ) → Each PointRanges (sheet .points) → d ≤ 4000000 → PenaltySize (penalty sheet function d)
+pub penalty-size : (points : List Point) (function d : ℕ) → Each PointRanges points → d ≤ 4000000 → PenaltySize (penalty points function d)
 unfolding penalty
-penalty-size sheet function d e b =
-    by-test (eqb function 0) (pos 0) (cond (eqb function 17) (intron-penalty d) (interpolated (points-of sheet function) d)) 80000010000000
+penalty-size points function d e b =
+    by-test (eqb function 0) (pos 0) (cond (eqb function 17) (intron-penalty d) (interpolated (points-of points function) d)) 80000010000000
     (omega arith)
-    (by-test (eqb function 17) (intron-penalty d) (interpolated (points-of sheet function) d) 80000010000000
+    (by-test (eqb function 17) (intron-penalty d) (interpolated (points-of points function) d) 80000010000000
     (intron-size d b)
-    (interpolated-size (points-of sheet function) d
-    (each-kept Costs (λ p. eqb (p .function) function) (sheet .points) (each-map PointRanges Costs (sheet .points) (λ p r. r .penalty) e))
+    (interpolated-size (points-of points function) d
+    (each-kept Costs (λ p. eqb (p .function) function) points (each-map PointRanges Costs points (λ p r. r .penalty) e))
     b))
 
 -- ---- segment scores: 10,000,000 for each base of 4,000,000
@@ -159,11 +159,8 @@ segment-score-size q s t l h k e =
 
 -- ---- a rule has at most 16 Q lines: they stand in strict order by type, and there are 16 types
 module _ (s t : Feature) where
-  abbrev of-pair : Qualifier → Bool
-  of-pair q = eqb (q .source) (s .kind) && eqb (q .target) (t .kind)
-
   -- a line before another of the same pair has a smaller type
-  type-rises : (q r : Qualifier) → T (of-pair q) → T (of-pair r) → Before (qualifier-keys q) (qualifier-keys r) → suc (q .kind) ≤ r .kind
+  type-rises : (q r : Qualifier) → T (of-pair s t q) → T (of-pair s t r) → Before (qualifier-keys q) (qualifier-keys r) → suc (q .kind) ≤ r .kind
   type-rises q r h k b =
       let hq = both (eqb (q .source) (s .kind)) (eqb (q .target) (t .kind)) h in
       let hr = both (eqb (r .source) (s .kind)) (eqb (r .target) (t .kind)) k in
@@ -180,28 +177,28 @@ module _ (s t : Feature) where
 
   -- n is no larger than the type of any line of the pair
   abbrev From : ℕ → Qualifier → Type 0
-  From n q = T (of-pair q) → n ≤ q .kind
+  From n q = T (of-pair s t q) → n ≤ q .kind
 
   few-left : (n : ℕ) (l : List Qualifier) → n ≤ 16 → Each QualifierRanges l → InOrder qualifier-keys l → Each (From n) l
-      → length (keep of-pair l) + n ≤ 16
+      → length (keep (of-pair s t) l) + n ≤ 16
   unfolding Each keep
   few-left n [] h e o f = omega arith
   few-left n (q ∷ l) h e o f =
-      go (of-pair q) refl
+      go (of-pair s t q) refl
       (few-left n l h (e .1) (order-rest qualifier-keys q l o) (f .1))
       (λ y. few-left (suc (q .kind)) l (let k = e .0 .kind in omega arith) (e .1) (order-rest qualifier-keys q l o)
       (each-map (λ r. Before (qualifier-keys q) (qualifier-keys r)) (From (suc (q .kind))) l (λ r b z. type-rises q r y z b) (order-head qualifier-keys q l o)))
     where
-      go : (b : Bool) → of-pair q ≡ b → length (keep of-pair l) + n ≤ 16 → (T (of-pair q) → length (keep of-pair l) + suc (q .kind) ≤ 16)
-          → length (cond b (q ∷ keep of-pair l) (keep of-pair l)) + n ≤ 16
+      go : (b : Bool) → of-pair s t q ≡ b → length (keep (of-pair s t) l) + n ≤ 16 → (T (of-pair s t q) → length (keep (of-pair s t) l) + suc (q .kind) ≤ 16)
+          → length (cond b (q ∷ keep (of-pair s t) l) (keep (of-pair s t) l)) + n ≤ 16
       go true is skip take =
-          let y : T (of-pair q) = subst T (sym is) tt in
+          let y : T (of-pair s t q) = subst T (sym is) tt in
           let k = take y in
           let m = f .0 y in
           omega arith
       go false is skip take = skip
 
-  few-qualifiers : (l : List Qualifier) → Each QualifierRanges l → InOrder qualifier-keys l → length (keep of-pair l) ≤ 16
+  few-qualifiers : (l : List Qualifier) → Each QualifierRanges l → InOrder qualifier-keys l → length (keep (of-pair s t) l) ≤ 16
   few-qualifiers l e o =
       let k = few-left 0 l (omega arith) e o (each-map QualifierRanges (From 0) l (λ q r y. omega arith) e) in
       omega arith
@@ -253,13 +250,13 @@ module _ (sheet : Sheet) (r : InRange sheet) where
           let e = q .end in
           record { kind = q .kind; start = (s .0, omega arith); end = (e .0, omega arith); score = q .score }
 
-  region-size : (s t : Feature) → Placed s → Placed t → natAbs (region-score sheet s t) ≤ 640000000000000
+  region-size : (s t : Feature) → Placed s → Placed t → natAbs (region-score (sheet .qualifiers) (sheet .segments) s t) ≤ 640000000000000
   region-size s t h k =
       let a = h .position in
       let b = k .position in
       omega (
         arith,
-        sum-size 40000000000000 (λ q. segment-score q (s .position) (t .position) (sheet .segments)) (qualifiers-of sheet s t)
+        sum-size 40000000000000 (λ q. segment-score q (s .position) (t .position) (sheet .segments)) (keep (of-pair s t) (sheet .qualifiers))
             (λ q. segment-score-size q (s .position) (t .position) (sheet .segments) (a .0) (b .1) short),
         mul-le-mul-right 40000000000000 (few-qualifiers s t (sheet .qualifiers) (r .qualifiers .each) (r .qualifiers .ordered)),
       )
@@ -269,16 +266,16 @@ module _ (sheet : Sheet) (r : InRange sheet) where
       let b = k .position in
       omega (
         arith,
-        abs-sum (region-score sheet s t -ℤ penalty sheet (rule .function) (distance s t)) (t .score),
-        abs-dif (region-score sheet s t) (penalty sheet (rule .function) (distance s t)),
+        abs-sum (region-score (sheet .qualifiers) (sheet .segments) s t -ℤ penalty (sheet .points) (rule .function) (distance s t)) (t .score),
+        abs-dif (region-score (sheet .qualifiers) (sheet .segments) s t) (penalty (sheet .points) (rule .function) (distance s t)),
         region-size s t h k,
-        penalty-size sheet (rule .function) (distance s t) (r .points .each) (omega arith),
+        penalty-size (sheet .points) (rule .function) (distance s t) (r .points .each) (omega arith),
         k .score,
       )
 
   pub gain-size : (a b : ℕ) → natAbs (gain sheet a b) ≤ 2 ^ 50
   unfolding gain
-  gain-size a b = go (rule-of sheet (candidate sheet a) (candidate sheet b))
+  gain-size a b = go (rule-of (sheet .rules) (candidate sheet a) (candidate sheet b))
     where
       go : (o : Option Rule) → natAbs (by-rule o (λ rule. gained sheet rule (candidate sheet a) (candidate sheet b)) (pos 0)) ≤ 2 ^ 50
       go none = omega arith

@@ -1,11 +1,14 @@
--- The laws of `Each`, `Adjacent` and `keep`: by place, and over lists that grow at the end.
-use mathlib.Core.Path.{_≡_, refl, sym, ap, _∙_, subst}
+-- The laws of `Each`, `Adjacent`, `keep` and `listed`: by place, and over lists that grow at the end.
+use mathlib.Core.Logic.{⊎-elim}
+use mathlib.Core.Path.{_≡_, refl, sym, ap, ap₂, _∙_}
 use mathlib.Core.Bool.{Bool, true, false, cond}
-use mathlib.Core.List.{List, [], _∷_, _++_, append-nil}
-use Prim.Native.Nat.{ℕ, zero, suc, _<_, _≤_}
+use mathlib.Core.List.{List, [], _∷_, _++_, append-nil, append-assoc, map}
+use Prim.Native.Nat.{ℕ, zero, suc, _+_, _-_, _<_, _≤_}
+use native.Mathlib.Nat.{eq-or-lt-of-le}
 use native.Mathlib.Omega.{arith}
-use lib.ListN.{length, getD}
-use Rattle.gaze.specs.Lists.{Each, Adjacent, keep}
+use lib.ListN.{length, getD, length-append, List·getD-append}
+use lib.Seq.{getD-at}
+use Rattle.gaze.specs.Lists.{Each, Adjacent, keep, listed}
 
 none-below : {n : ℕ} → n < 0 → ⊥
 none-below h = omega arith
@@ -88,3 +91,64 @@ keep-length test (a ∷ l) = go (test a) (keep-length test l)
     go : (b : Bool) → length (keep test l) ≤ length l → length (cond b (a ∷ keep test l) (keep test l)) ≤ suc (length l)
     go true h = omega arith
     go false h = omega arith
+
+-- ---- the list that a function gives
+pub listed-more : {A : Type 0} (f : ℕ → A) (lo i : ℕ) → lo ≤ i → listed f lo (i + 1 - lo) ≡ listed f lo (i - lo) ++ (f i ∷ [])
+unfolding listed
+listed-more f lo i h =
+    let n : i + 1 - lo ≡ suc (i - lo) = omega arith in
+    let e : lo + (i - lo) ≡ i = omega arith in
+    ap (listed f lo) n ∙ ap (λ (j : ℕ). listed f lo (i - lo) ++ (f j ∷ [])) e
+
+pub listed-none : {A : Type 0} (f : ℕ → A) (lo i : ℕ) → i ≡ lo → listed f lo (i - lo) ≡ []
+unfolding listed
+listed-none f lo i h =
+    let n : i - lo ≡ 0 = omega arith in
+    ap (listed f lo) n
+
+pub listed-length : {A : Type 0} (f : ℕ → A) (lo n : ℕ) → length (listed f lo n) ≡ n
+unfolding listed
+listed-length f lo zero = refl
+listed-length f lo (suc n) = length-append (listed f lo n) (f (lo + n) ∷ []) ∙ one-more (listed-length f lo n)
+  where
+    one-more : {k : ℕ} → k ≡ n → k + 1 ≡ suc n
+    one-more h = omega arith
+
+pub listed-at : {A : Type 0} (f : ℕ → A) (lo n : ℕ) (d : A) (i : ℕ) → i < n → getD (listed f lo n) i d ≡ f (lo + i)
+unfolding listed
+listed-at f lo zero d i h = absurd (none-below h)
+listed-at f lo (suc n) d i h = ⊎-elim at-end (before (listed-at f lo n d i)) (eq-or-lt-of-le (le-down h))
+  where
+    le-down : {a b : ℕ} → a < suc b → a ≤ b
+    le-down h = omega arith
+
+    at-end : i ≡ n → getD (listed f lo n ++ (f (lo + n) ∷ [])) i d ≡ f (lo + i)
+    at-end e = rw e (getD-at (listed f lo n) (f (lo + n)) [] d n (listed-length f lo n))
+
+    before : (i < n → getD (listed f lo n) i d ≡ f (lo + i)) → i < n → getD (listed f lo n ++ (f (lo + n) ∷ [])) i d ≡ f (lo + i)
+    before shorter lt = List·getD-append (listed f lo n) (f (lo + n) ∷ []) d i (rw (listed-length f lo n) lt) ∙ shorter lt
+
+-- the same list, where the functions agree
+pub listed-same : {A : Type 0} (f g : ℕ → A) (lo n : ℕ) → ((i : ℕ) → lo ≤ i → i < lo + n → f i ≡ g i) → listed f lo n ≡ listed g lo n
+unfolding listed
+listed-same f g lo zero h = refl
+listed-same f g lo (suc n) h =
+    ap₂ _++_ (listed-same f g lo n (λ i l u. h i l (omega arith))) (ap (λ (a : _). a ∷ []) (h (lo + n) (omega arith) (omega arith)))
+
+-- in two parts
+pub listed-joined : {A : Type 0} (f : ℕ → A) (lo m n : ℕ) → listed f lo (m + n) ≡ listed f lo m ++ listed f (lo + m) n
+unfolding listed
+listed-joined f lo m zero = rw (zero-right m) (sym (append-nil (listed f lo m)))
+  where
+    zero-right : (m : ℕ) → m + 0 ≡ m
+    zero-right m = omega arith
+listed-joined f lo m (suc n) =
+    ap (listed f lo) (suc-right m n)
+    ∙ (ap₂ (λ (l : List _) (i : ℕ). l ++ (f i ∷ [])) (listed-joined f lo m n) (regroup lo m n)
+    ∙ append-assoc (listed f lo m) (listed f (lo + m) n) (f (lo + m + n) ∷ []))
+  where
+    suc-right : (m n : ℕ) → m + suc n ≡ suc (m + n)
+    suc-right m n = omega arith
+
+    regroup : (lo m n : ℕ) → lo + (m + n) ≡ lo + m + n
+    regroup lo m n = omega arith

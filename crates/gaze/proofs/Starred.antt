@@ -73,12 +73,8 @@ abbrev without-ends : Sheet
 without-ends =
     sheet (free-rule 0 2 ∷ coding-rule ∷ []) (start 10 (pos 1500) ∷ start 13 (pos 200) ∷ stop 24 (pos 500) ∷ stop 39 (pos 3000) ∷ [])
 
-abbrev with-points : List Point → Sheet
-with-points points =
-    record { sequence-length = 100; points = points; rules = []; qualifiers = []; features = []; segments = [] }
-
-abbrev slope : Sheet
-slope = with-points (point 0 (pos 0) ∷ point 3 (negsuc 9) ∷ [])
+abbrev slope : List Point
+slope = point 0 (pos 0) ∷ point 3 (negsuc 9) ∷ []
 
 abbrev Wins : Sheet → List ℕ → ℤ → Type 0
 Wins sheet chain score = Best (steps sheet) (end-number sheet) chain × (total (steps sheet) chain ≡ score)
@@ -99,10 +95,10 @@ pub record Starred : Type 0 where
   pub share-alone : segment-score (qualifier 1) 10 12 (segment 10 21 (negsuc 2400) ∷ []) ≡ negsuc 600
   pub share-with-far : segment-score (qualifier 1) 10 12 (segment 10 21 (negsuc 2400) ∷ segment 50 60 (pos 5) ∷ []) ≡ pos 0
   pub rates-floored : segment-score (qualifier 2) 10 12 (segment 10 12 (pos 100) ∷ []) ≡ pos 99
-  pub intron-20 : penalty slope 17 20 ≡ pos 6000
-  pub intron-48 : penalty slope 17 48 ≡ pos 1500
-  pub intron-100 : penalty slope 17 100 ≡ pos 191
-  pub intron-from-1023 : (d : ℕ) → 1023 ≤ d → penalty slope 17 d ≡ pos 4000
+  pub intron-20 : penalty [] 17 20 ≡ pos 6000
+  pub intron-48 : penalty [] 17 48 ≡ pos 1500
+  pub intron-100 : penalty [] 17 100 ≡ pos 191
+  pub intron-from-1023 : (d : ℕ) → 1023 ≤ d → penalty [] 17 d ≡ pos 4000
 
 pub starred : Starred
 unfolding keep first-of some-of Adjacent first last total candidates candidate past interpolated intron-penalty penalty sum-over rule-of legal gain trace-back consider choose fill reached answer

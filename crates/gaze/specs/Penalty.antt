@@ -7,7 +7,6 @@ use lib.IntN.{ℤ, pos, _+ℤ_, _-ℤ_, _*ℤ_}
 use Rattle.whole.specs.Whole.{floor-of}
 use Rattle.gaze.specs.declared.Point.{Point}
 use Rattle.gaze.specs.Lists.{keep}
-use Rattle.gaze.specs.Sheet.{Sheet}
 
 -- On the line through the points p and q, at a distance d not before p.
 abbrev pub on-line : Point → Point → ℕ → ℤ
@@ -39,9 +38,10 @@ unfoldable pub intron-penalty : ℕ → ℤ
 intron-penalty d = interpolated intron-points (min d 1023)
 
 -- Functions 1 to 16 are lists of points.
-abbrev pub points-of : Sheet → ℕ → List Point
-points-of sheet function = keep (λ p. eqb (p .function) function) (sheet .points)
+abbrev pub points-of : List Point → ℕ → List Point
+points-of points function = keep (λ p. eqb (p .function) function) points
 
-unfoldable pub penalty : Sheet → ℕ → ℕ → ℤ
-penalty sheet function d =
-    cond (eqb function 0) (pos 0) (cond (eqb function 17) (intron-penalty d) (interpolated (points-of sheet function) d))
+-- Among the points of a sheet.
+unfoldable pub penalty : List Point → ℕ → ℕ → ℤ
+penalty points function d =
+    cond (eqb function 0) (pos 0) (cond (eqb function 17) (intron-penalty d) (interpolated (points-of points function) d))

@@ -12,6 +12,7 @@ use Rattle.gaze.specs.declared.Interruption.the-variants.{None, FromSour
 use Rattle.gaze.specs.declared.Rule.{Rule}
 use Rattle.gaze.specs.declared.Qualifier.{Qualifier}
 use Rattle.gaze.specs.declared.Feature.{Feature}
+use Rattle.gaze.specs.declared.Segment.{Segment}
 use Rattle.gaze.specs.Lists.{keep, first-of, some-of}
 use Rattle.gaze.specs.Chain.{Steps}
 use Rattle.gaze.specs.Sheet.{Sheet, candidate}
@@ -23,8 +24,8 @@ abbrev pub distance : Feature → Feature → ℕ
 distance s t = t .position - s .position
 
 -- The rule of a pair: R lines stand in strict order by source and target, so there is one at the most.
-unfoldable pub rule-of : Sheet → Feature → Feature → Option Rule
-rule-of sheet s t = first-of (λ r. eqb (r .source) (s .kind) && eqb (r .target) (t .kind)) (sheet .rules)
+unfoldable pub rule-of : List Rule → Feature → Feature → Option Rule
+rule-of rules s t = first-of (λ r. eqb (r .source) (s .kind) && eqb (r .target) (t .kind)) rules
 
 -- ---- what a rule asks of a pair
 abbrev pub meets-distance : Rule → ℕ → Bool
@@ -45,23 +46,25 @@ interrupts (FromTarget kind remainder) s t f =
     eqb (f .kind) kind && (stands-between s t f && eqb ((t .position - f .position) % 3) remainder)
 
 -- Any F line interrupts: it need not be on the chain.
-abbrev pub interrupted : Sheet → Interruption → Feature → Feature → Bool
-interrupted sheet i s t = some-of (interrupts i s t) (sheet .features)
+abbrev pub interrupted : List Feature → Interruption → Feature → Feature → Bool
+interrupted features i s t = some-of (interrupts i s t) features
 
-abbrev pub meets : Sheet → Rule → Feature → Feature → Bool
-meets sheet r s t =
-    meets-distance r (distance s t) && (meets-phase r (distance s t) && not (interrupted sheet (r .interruption) s t))
+abbrev pub meets : List Feature → Rule → Feature → Feature → Bool
+meets features r s t =
+    meets-distance r (distance s t) && (meets-phase r (distance s t) && not (interrupted features (r .interruption) s t))
 
 -- ---- what a step gains: segment score - length penalty + the target's own score
-abbrev pub qualifiers-of : Sheet → Feature → Feature → List Qualifier
-qualifiers-of sheet s t = keep (λ q. eqb (q .source) (s .kind) && eqb (q .target) (t .kind)) (sheet .qualifiers)
+abbrev pub of-pair : Feature → Feature → Qualifier → Bool
+of-pair s t q = eqb (q .source) (s .kind) && eqb (q .target) (t .kind)
 
-abbrev pub region-score : Sheet → Feature → Feature → ℤ
-region-score sheet s t =
-    sum-of (map (λ q. segment-score q (s .position) (t .position) (sheet .segments)) (qualifiers-of sheet s t))
+-- The sum over the rule's Q lines.
+abbrev pub region-score : List Qualifier → List Segment → Feature → Feature → ℤ
+region-score qualifiers segments s t =
+    sum-of (map (λ q. segment-score q (s .position) (t .position) segments) (keep (of-pair s t) qualifiers))
 
 abbrev pub gained : Sheet → Rule → Feature → Feature → ℤ
-gained sheet r s t = (region-score sheet s t -ℤ penalty sheet (r .function) (distance s t)) +ℤ t .score
+gained sheet r s t =
+    (region-score (sheet .qualifiers) (sheet .segments) s t -ℤ penalty (sheet .points) (r .function) (distance s t)) +ℤ t .score
 
 -- ---- by candidate numbers; a pair without a rule is not legal, and gains nothing
 abbrev pub by-rule : {A : Type 0} → Option Rule → (Rule → A) → A → A
@@ -72,13 +75,13 @@ unfoldable pub legal : Sheet → ℕ → ℕ → Bool
 legal sheet a b =
     let s = candidate sheet a in
     let t = candidate sheet b in
-    by-rule (rule-of sheet s t) (λ r. meets sheet r s t) false
+    by-rule (rule-of (sheet .rules) s t) (λ r. meets (sheet .features) r s t) false
 
 unfoldable pub gain : Sheet → ℕ → ℕ → ℤ
 gain sheet a b =
     let s = candidate sheet a in
     let t = candidate sheet b in
-    by-rule (rule-of sheet s t) (λ r. gained sheet r s t) (pos 0)
+    by-rule (rule-of (sheet .rules) s t) (λ r. gained sheet r s t) (pos 0)
 
 abbrev pub steps : Sheet → Steps
 steps sheet = record { legal = legal sheet; gain = gain sheet }
