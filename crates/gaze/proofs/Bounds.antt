@@ -1,16 +1,16 @@
 -- Every gain of a sheet whose fields are in range is at most 2^50 in size, so the gains of the 1,025 steps that a chain can have add up
 -- within 64 bits. The bounds leave room: they hold too where a penalty goes on rising beyond its last point, and whoever enters a maximum.
 use mathlib.Core.Path.{_≡_, refl, sym, ap, _∙_, subst}
-use mathlib.Core.Logic.{_⊎_, inl, inr, ⊎-elim}
+use mathlib.Core.Logic.{_⊎_, inl, inr}
 use mathlib.Core.Bool.{Bool, true, false, cond, _&&_}
 use mathlib.Core.Option.{Option, none, some}
-use mathlib.Core.List.{List, [], _∷_, _++_, map, foldl}
+use mathlib.Core.List.{List, [], _∷_, map, foldl}
 use Prim.Native.Nat.{ℕ, zero, suc, _+_, _-_, _*_, _^_, _≤_, _<_, min, max}
 use native.Mathlib.Nat.{mul-le-mul-right, suc-mul}
 use native.Mathlib.Omega.{arith}
 use lib.Dec.{T, leb, eqb, eqb→eq}
 use lib.IntN.{ℤ, pos, natAbs, _+ℤ_, _-ℤ_, _*ℤ_}
-use lib.ListN.{length, List·getD-eq-default}
+use lib.ListN.{length}
 use Rattle.whole.specs.Whole.{floor-of, larger-of, sum-of}
 use Rattle.whole.proofs.Size.{abs-sum, abs-dif, abs-mul-le, abs-larger}
 use Rattle.whole.proofs.Quotients.{abs-floor, abs-floor-le}
@@ -20,15 +20,15 @@ use Rattle.gaze.specs.declared.Qualifier.{Qualifier}
 use Rattle.gaze.specs.declared.Feature.{Feature}
 use Rattle.gaze.specs.declared.Segment.{Segment}
 use Rattle.gaze.specs.Lists.{Each, Adjacent, keep}
-use Rattle.gaze.specs.Sheet.{Sheet, begin, end, candidates, candidate}
+use Rattle.gaze.specs.Sheet.{Sheet, candidate}
 use Rattle.gaze.specs.Penalty.{on-line, beyond, past, interpolated, intron-points, intron-penalty, points-of, penalty}
 use Rattle.gaze.specs.SegmentScore.{chosen, overlap, size, enters, largest, share, largest-share, rate, holds, rate-at, largest-rate, sum-over, summed-rates, segment-score}
 use Rattle.gaze.specs.Step.{distance, rule-of, of-pair, region-score, gained, by-rule, gain}
-use Rattle.gaze.specs.Ranges.{Within, Thousandths, PointRanges, QualifierRanges, SegmentRanges, FeatureRanges, Before, InOrder, qualifier-keys, InRange}
-use Rattle.gaze.proofs.ListLaws.{each-at, each-append, each-map, each-kept}
+use Rattle.gaze.specs.Ranges.{Thousandths, PointRanges, QualifierRanges, SegmentRanges, Before, InOrder, qualifier-keys, InRange}
+use Rattle.gaze.proofs.ListLaws.{each-map, each-kept}
 use Rattle.gaze.proofs.OrderLaws.{order-rest, order-head}
 use Rattle.gaze.proofs.Tests.{both}
-use Rattle.gaze.proofs.Picked.{at-or-below}
+use Rattle.gaze.proofs.Candidates.{Placed, placed}
 
 by-test : (b : Bool) (x y : ℤ) (n : ℕ) → natAbs x ≤ n → natAbs y ≤ n → natAbs (cond b x y) ≤ n
 by-test true x y n h k = h
@@ -208,38 +208,8 @@ sum-size n f [] h = omega arith
 sum-size n f (q ∷ l) h =
     omega (arith, sum-size n f l h, h q, abs-sum (f q) (sum-of (map f l)), suc-mul (length l) n)
 
--- ---- candidates: BEGIN and END too stand from 1 to 4,000,000, with a score in its range
-record Placed (f : Feature) : Type 0 where
-  position : Within 1 4000000 (f .position)
-  score : Thousandths (f .score)
-
+-- ---- the gain
 module _ (sheet : Sheet) (r : InRange sheet) where
-  end-placed : Placed (end sheet)
-  end-placed = let h = r .sequence-length in record { position = (omega arith, omega arith); score = omega arith }
-
-  all-placed : Each Placed (candidates sheet)
-  unfolding candidates Each
-  all-placed = (
-    record { position = (omega arith, omega arith); score = omega arith },
-    each-append Placed (sheet .features) (end sheet ∷ [])
-        (each-map (FeatureRanges (sheet .sequence-length)) Placed (sheet .features) within (r .features .each))
-        (end-placed, tt),
-  )
-    where
-      within : (f : Feature) → FeatureRanges (sheet .sequence-length) f → Placed f
-      within f q =
-          let h = r .sequence-length in
-          let k = q .position in
-          record { position = (omega arith, omega arith); score = q .score }
-
-  placed : (k : ℕ) → Placed (candidate sheet k)
-  unfolding candidate
-  placed k =
-      ⊎-elim
-      (λ h. rw (List·getD-eq-default (candidates sheet) (end sheet) h) end-placed)
-      (λ h. each-at Placed (end sheet) (candidates sheet) all-placed k h)
-      (at-or-below (length (candidates sheet)) k)
-
   short : Each Short (sheet .segments)
   short = each-map (SegmentRanges (sheet .sequence-length)) Short (sheet .segments) within (r .segments .each)
     where
@@ -279,4 +249,4 @@ module _ (sheet : Sheet) (r : InRange sheet) where
     where
       go : (o : Option Rule) → natAbs (by-rule o (λ rule. gained sheet rule (candidate sheet a) (candidate sheet b)) (pos 0)) ≤ 2 ^ 50
       go none = omega arith
-      go (some rule) = gained-size rule (candidate sheet a) (candidate sheet b) (placed a) (placed b)
+      go (some rule) = gained-size rule (candidate sheet a) (candidate sheet b) (placed sheet r a) (placed sheet r b)

@@ -8,5 +8,6 @@ pub mod Table
 pub mod Programme
 pub mod TieRule
 pub mod Unique
+pub mod Candidates
 pub mod Bounds
 pub mod Starred

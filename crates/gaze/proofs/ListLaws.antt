@@ -1,14 +1,14 @@
 -- The laws of `Each`, `Adjacent`, `keep` and `listed`: by place, and over lists that grow at the end.
 use mathlib.Core.Logic.{⊎-elim}
 use mathlib.Core.Path.{_≡_, refl, sym, ap, ap₂, _∙_}
-use mathlib.Core.Bool.{Bool, true, false, cond}
+use mathlib.Core.Bool.{Bool, true, false, cond, _||_}
 use mathlib.Core.List.{List, [], _∷_, _++_, append-nil, append-assoc, map}
 use Prim.Native.Nat.{ℕ, zero, suc, _+_, _-_, _<_, _≤_}
 use native.Mathlib.Nat.{eq-or-lt-of-le}
 use native.Mathlib.Omega.{arith}
 use lib.ListN.{length, getD, length-append, List·getD-append}
 use lib.Seq.{getD-at}
-use Rattle.gaze.specs.Lists.{Each, Adjacent, keep, listed}
+use Rattle.gaze.specs.Lists.{Each, Adjacent, keep, listed, some-of}
 
 none-below : {n : ℕ} → n < 0 → ⊥
 none-below h = omega arith
@@ -64,6 +64,31 @@ adjacent-at R d (a ∷ []) p i h = absurd (none-in h)
     none-in h = omega arith
 adjacent-at R d (a ∷ b ∷ l) p zero h = p .0
 adjacent-at R d (a ∷ b ∷ l) p (suc i) h = adjacent-at R d (b ∷ l) (p .1) i (omega arith)
+
+-- a relation that goes from each entry to the next, and onward, goes to every later entry
+module _ {A : Type 0} (R : A → A → Type 0) (itself : (a : A) → R a a) (onward : (a b c : A) → R a b → R b c → R a c) (d : A) where
+  to-later : (a : A) (l : List A) → Adjacent R (a ∷ l) → (j : ℕ) → j ≤ length l → R a (getD (a ∷ l) j d)
+  unfolding Adjacent
+  to-later a l p zero h = itself a
+  to-later a [] p (suc j) h = absurd (none-in h)
+    where
+      none-in : {j : ℕ} → suc j ≤ 0 → ⊥
+      none-in h = omega arith
+  to-later a (b ∷ l) p (suc j) h = onward a b (getD (b ∷ l) j d) (p .0) (to-later b l (p .1) j (omega arith))
+
+  pub adjacent-pairs : (l : List A) → Adjacent R l → (i j : ℕ) → i ≤ j → j < length l → R (getD l i d) (getD l j d)
+  unfolding Adjacent
+  adjacent-pairs [] p i j h k = absurd (none-below k)
+  adjacent-pairs (a ∷ l) p zero j h k = to-later a l p j (omega arith)
+  adjacent-pairs (a ∷ l) p (suc i) zero h k = absurd (none-in h)
+    where
+      none-in : {i : ℕ} → suc i ≤ 0 → ⊥
+      none-in h = omega arith
+  adjacent-pairs (a ∷ []) p (suc i) (suc j) h k = absurd (none-in k)
+    where
+      none-in : {j : ℕ} → suc j < 1 → ⊥
+      none-in h = omega arith
+  adjacent-pairs (a ∷ b ∷ l) p (suc i) (suc j) h k = adjacent-pairs (b ∷ l) (p .1) i j (omega arith) (omega arith)
 
 -- ---- what is kept of a list that grows at the end
 keep-one : {A : Type 0} (b : Bool) (a : A) (l m : List A) → cond b (a ∷ (l ++ m)) (l ++ m) ≡ cond b (a ∷ l) l ++ m
@@ -152,3 +177,38 @@ listed-joined f lo m (suc n) =
 
     regroup : (lo m n : ℕ) → lo + (m + n) ≡ lo + m + n
     regroup lo m n = omega arith
+
+pub listed-first : {A : Type 0} (f : ℕ → A) (lo n : ℕ) → listed f lo (suc n) ≡ f lo ∷ listed f (suc lo) n
+unfolding listed
+listed-first f lo n =
+    ap (listed f lo) (one-more n)
+    ∙ (listed-joined f lo 1 n ∙ ap₂ (λ (i j : ℕ). f i ∷ listed f j n) (zero-right lo) (one-right lo))
+  where
+    one-more : (n : ℕ) → suc n ≡ 1 + n
+    one-more n = omega arith
+
+    zero-right : (lo : ℕ) → lo + 0 ≡ lo
+    zero-right lo = omega arith
+
+    one-right : (lo : ℕ) → lo + 1 ≡ suc lo
+    one-right lo = omega arith
+
+-- ---- whether some entry passes
+pub some-append : {A : Type 0} (test : A → Bool) (l m : List A) → some-of test (l ++ m) ≡ (some-of test l || some-of test m)
+unfolding some-of
+some-append test [] m = refl
+some-append test (a ∷ l) m = rw (some-append test l m) (either (test a) (some-of test l) (some-of test m))
+  where
+    either : (a b c : Bool) → (a || (b || c)) ≡ ((a || b) || c)
+    either true b c = refl
+    either false b c = refl
+
+pub some-same : {A : Type 0} (p q : A → Bool) (l : List A) → ((a : A) → p a ≡ q a) → some-of p l ≡ some-of q l
+unfolding some-of
+some-same p q [] h = refl
+some-same p q (a ∷ l) h = ap₂ _||_ (h a) (some-same p q l h)
+
+pub some-none : {A : Type 0} (P : A → Type 0) (test : A → Bool) (l : List A) → ((a : A) → P a → test a ≡ false) → Each P l → some-of test l ≡ false
+unfolding some-of Each
+some-none P test [] h e = refl
+some-none P test (a ∷ l) h e = rw (h a (e .0)) (some-none P test l h (e .1))

@@ -1,11 +1,12 @@
 -- What columns of numbers mean: the tables that the reader fills, and that every part above it takes as they are. Entry i of a group's columns
 -- is its line i; past the end of a column stands 0.
+use mathlib.Core.Path.{_≡_}
 use mathlib.Core.Bool.{cond}
 use mathlib.Core.List.{List}
-use Prim.Native.Nat.{ℕ, _+_, _*_}
+use Prim.Native.Nat.{ℕ, _+_, _*_, _≤_, _<_}
 use lib.Dec.{eqb}
 use lib.IntN.{ℤ, pos}
-use lib.ListN.{getD}
+use lib.ListN.{length, getD}
 use Rattle.gaze.specs.declared.Point.{Point}
 use Rattle.gaze.specs.declared.Interruption.{Interruption}
 use Rattle.gaze.specs.declared.Interruption.the-variants.{None, FromSource, FromTarget}
@@ -13,6 +14,8 @@ use Rattle.gaze.specs.declared.Rule.{Rule}
 use Rattle.gaze.specs.declared.Qualifier.{Qualifier}
 use Rattle.gaze.specs.declared.Feature.{Feature}
 use Rattle.gaze.specs.declared.Segment.{Segment}
+use Rattle.gaze.specs.Lists.{listed}
+use Rattle.gaze.specs.Sheet.{Sheet, candidate, end-number}
 
 abbrev pub point-at : List ℕ → List ℕ → List ℤ → ℕ → Point
 point-at functions distances penalties i =
@@ -55,3 +58,35 @@ qualifier-at rows k =
       phase = getD rows (6 * k + 4) 0;
       matching = getD rows (6 * k + 5) 0;
     }
+
+-- ---- which sheet the columns hold
+pub record Candidates (sheet : Sheet) (kinds positions : List ℕ) : Type 0 where
+  pub kinds-long : end-number sheet < length kinds
+  pub positions-long : end-number sheet < length positions
+  pub kind : (k : ℕ) → k ≤ end-number sheet → getD kinds k 0 ≡ candidate sheet k .kind
+  pub position : (k : ℕ) → k ≤ end-number sheet → getD positions k 0 ≡ candidate sheet k .position
+
+pub record Scores (sheet : Sheet) (scores : List ℤ) : Type 0 where
+  pub long : end-number sheet < length scores
+  pub score : (k : ℕ) → k ≤ end-number sheet → getD scores k (pos 0) ≡ candidate sheet k .score
+
+pub record Points (points : List Point) (functions distances : List ℕ) (penalties : List ℤ) : Type 0 where
+  pub functions-long : length points ≤ length functions
+  pub distances-long : length points ≤ length distances
+  pub penalties-long : length points ≤ length penalties
+  pub is : points ≡ listed (point-at functions distances penalties) 0 (length points)
+
+pub record Rules (rules : List Rule) (rows : List ℕ) : Type 0 where
+  pub long : 9 * length rules ≤ length rows
+  pub is : rules ≡ listed (rule-at rows) 0 (length rules)
+
+pub record Qualifiers (qualifiers : List Qualifier) (rows : List ℕ) : Type 0 where
+  pub long : 6 * length qualifiers ≤ length rows
+  pub is : qualifiers ≡ listed (qualifier-at rows) 0 (length qualifiers)
+
+pub record Segments (segments : List Segment) (kinds starts ends : List ℕ) (scores : List ℤ) : Type 0 where
+  pub kinds-long : length segments ≤ length kinds
+  pub starts-long : length segments ≤ length starts
+  pub ends-long : length segments ≤ length ends
+  pub scores-long : length segments ≤ length scores
+  pub is : segments ≡ listed (segment-at kinds starts ends scores) 0 (length segments)
