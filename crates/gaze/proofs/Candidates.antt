@@ -1,17 +1,18 @@
 -- The candidates of a sheet in range: BEGIN and END among them stand from 1 to 4,000,000 with a type below 32 and a score in its range, and
 -- their positions never fall.
-use mathlib.Core.Path.{_≡_, refl, sym, subst}
+use mathlib.Core.Path.{_≡_, sym, ap, _∙_}
 use mathlib.Core.Logic.{_⊎_, inl, inr, ⊎-elim}
 use mathlib.Core.List.{List, [], _∷_, _++_}
 use Prim.Native.Nat.{ℕ, suc, _+_, _≤_}
 use native.Mathlib.Omega.{arith}
-use lib.ListN.{length, getD, length-append, List·getD-eq-default}
+use lib.ListN.{length, getD, length-append, List·getD-append, List·getD-eq-default}
+use lib.Seq.{ext-getD}
 use Rattle.gaze.specs.declared.Feature.{Feature}
-use Rattle.gaze.specs.Lists.{Each, Adjacent}
+use Rattle.gaze.specs.Lists.{Each, Adjacent, listed}
 use Rattle.gaze.specs.Sheet.{Sheet, begin, end, candidates, candidate, end-number}
 use Rattle.gaze.specs.Ranges.{Within, Thousandths, FeatureRanges, Before, InOrder, feature-keys, InRange}
-use Rattle.gaze.proofs.ListLaws.{each-at, each-append, each-map, adjacent-pairs}
-use Rattle.gaze.proofs.Picked.{at-or-below}
+use Rattle.gaze.proofs.ListLaws.{each-at, each-append, each-map, adjacent-pairs, listed-length, listed-at}
+use Rattle.gaze.proofs.Tests.{at-or-below}
 
 pub record Placed (f : Feature) : Type 0 where
   pub kind : f .kind ≤ 31
@@ -89,3 +90,15 @@ module _ (sheet : Sheet) (r : InRange sheet) where
   unfolding candidate
   never-falls a b h k =
       adjacent-pairs NotBehind (λ f. omega arith) (λ f g e p q. omega arith) (end sheet) (candidates sheet) in-order a b h (rw candidates-length (omega arith))
+
+-- the F lines are candidates 1 to n
+pub features-listed : (sheet : Sheet) → sheet .features ≡ listed (candidate sheet) 1 (length (sheet .features))
+unfolding candidate candidates
+features-listed sheet =
+    ext-getD (end sheet) (sheet .features) (listed (candidate sheet) 1 (length (sheet .features)))
+    (sym (listed-length (candidate sheet) 1 (length (sheet .features))))
+    (λ i h. sym (List·getD-append (sheet .features) (end sheet ∷ []) (end sheet) i h)
+    ∙ (ap (candidate sheet) (one-on i) ∙ sym (listed-at (candidate sheet) 1 (length (sheet .features)) (end sheet) i h)))
+  where
+    one-on : (i : ℕ) → suc i ≡ 1 + i
+    one-on i = omega arith

@@ -1,5 +1,5 @@
-pub mod ListLaws
 pub mod Tests
+pub mod ListLaws
 pub mod OrderLaws
 pub mod Entries
 pub mod Back

@@ -6,9 +6,10 @@ use mathlib.Core.List.{List, [], _∷_, _++_, append-nil, append-assoc, map}
 use Prim.Native.Nat.{ℕ, zero, suc, _+_, _-_, _<_, _≤_}
 use native.Mathlib.Nat.{eq-or-lt-of-le}
 use native.Mathlib.Omega.{arith}
-use lib.ListN.{length, getD, length-append, List·getD-append}
+use lib.ListN.{length, getD, replicate, length-append, length-replicate, getD-replicate, List·getD-append, List·getD-eq-default}
 use lib.Seq.{getD-at}
 use Rattle.gaze.specs.Lists.{Each, Adjacent, keep, listed, some-of}
+use Rattle.gaze.proofs.Tests.{at-or-below}
 
 none-below : {n : ℕ} → n < 0 → ⊥
 none-below h = omega arith
@@ -44,6 +45,14 @@ each-kept P test (a ∷ l) p = go (test a) (each-kept P test l (p .1))
     go : (b : Bool) → Each P (keep test l) → Each P (cond b (a ∷ keep test l) (keep test l))
     go true q = (p .0, q)
     go false q = q
+
+-- ---- one entry over and over
+pub repeated : {A : Type 0} (n : ℕ) (a : A) (j : ℕ) → getD (replicate n a) j a ≡ a
+repeated n a j =
+    ⊎-elim
+    (λ h. List·getD-eq-default (replicate n a) a (rw (length-replicate n a) h))
+    (λ h. getD-replicate n j a a h)
+    (at-or-below n j)
 
 -- ---- adjacent entries, by their places
 pub adjacent-of : {A : Type 0} (R : A → A → Type 0) (d : A) (l : List A) → ((i : ℕ) → suc i < length l → R (getD l i d) (getD l (suc i) d)) → Adjacent R l
@@ -152,6 +161,12 @@ listed-at f lo (suc n) d i h = ⊎-elim at-end (before (listed-at f lo n d i)) (
 
     before : (i < n → getD (listed f lo n) i d ≡ f (lo + i)) → i < n → getD (listed f lo n ++ (f (lo + n) ∷ [])) i d ≡ f (lo + i)
     before shorter lt = List·getD-append (listed f lo n) (f (lo + n) ∷ []) d i (rw (listed-length f lo n) lt) ∙ shorter lt
+
+pub each-listed : {A : Type 0} (P : A → Type 0) (f : ℕ → A) (lo n : ℕ) → ((i : ℕ) → lo ≤ i → i < lo + n → P (f i)) → Each P (listed f lo n)
+unfolding listed Each
+each-listed P f lo zero h = tt
+each-listed P f lo (suc n) h =
+    each-append P (listed f lo n) (f (lo + n) ∷ []) (each-listed P f lo n (λ i l u. h i l (omega arith))) (h (lo + n) (omega arith) (omega arith), tt)
 
 -- the same list, where the functions agree
 pub listed-same : {A : Type 0} (f g : ℕ → A) (lo n : ℕ) → ((i : ℕ) → lo ≤ i → i < lo + n → f i ≡ g i) → listed f lo n ≡ listed g lo n

@@ -25,11 +25,6 @@ pub record Picked (m : Steps) (reach : ℕ → Bool) (value : ℕ → ℤ) (e lo
   pub most : T r → (s : ℕ) → lo ≤ s → s < hi → T (m .legal s e) → T (reach s) → (value s +ℤ m .gain s e) ≤ℤ v
   pub latest : T r → (s : ℕ) → lo ≤ s → s < hi → T (m .legal s e) → T (reach s) → value s +ℤ m .gain s e ≡ v → s ≤ f
 
-pub at-or-below : (i s : ℕ) → (i ≤ s) ⊎ (s < i)
-at-or-below zero s = inl zero-le
-at-or-below (suc i) zero = inr (omega arith)
-at-or-below (suc i) (suc s) = ⊎-elim (λ h. inl (omega arith)) (λ h. inr (omega arith)) (at-or-below i s)
-
 pub split-last : {P : ℕ → Type 0} {i : ℕ} → ((s : ℕ) → s < i → P s) → P i → (s : ℕ) → s < suc i → P s
 split-last {P} {i} f x s h = ⊎-elim (λ e. subst P (sym e) x) (f s) (eq-or-lt-of-le (le-down h))
   where

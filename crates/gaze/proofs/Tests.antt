@@ -1,6 +1,8 @@
--- What the outcome of a test says.
-use mathlib.Core.Logic.{_⊎_, inl, inr}
+-- What the outcome of a test says, and the two ways in which numbers can stand.
+use mathlib.Core.Logic.{_⊎_, inl, inr, ⊎-elim}
 use mathlib.Core.Bool.{Bool, true, false, not, _&&_}
+use Prim.Native.Nat.{ℕ, zero, suc, _≤_, _<_, zero-le}
+use native.Mathlib.Omega.{arith}
 use lib.Dec.{T}
 
 pub bool-cases : (b : Bool) → T b ⊎ T (not b)
@@ -14,3 +16,8 @@ both false b h = absurd h
 pub not-both : (a b : Bool) → T (not (a && b)) → T a → T (not b)
 not-both true b h y = h
 not-both false b h y = absurd y
+
+pub at-or-below : (i s : ℕ) → (i ≤ s) ⊎ (s < i)
+at-or-below zero s = inl zero-le
+at-or-below (suc i) zero = inr (omega arith)
+at-or-below (suc i) (suc s) = ⊎-elim (λ h. inl (omega arith)) (λ h. inr (omega arith)) (at-or-below i s)

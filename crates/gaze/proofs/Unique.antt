@@ -12,7 +12,7 @@ use Rattle.gaze.specs.declared.Verdict.the-variants.{NoChain, Breaks, Sc
 use Rattle.gaze.specs.Chain.{Steps, Valid, Later, here, there, Best, total, Assembled, legal-step, FirstBad, Judged}
 use Rattle.whole.proofs.Order.{≤ℤ-antisymm}
 use Rattle.gaze.proofs.Entries.{all-legal}
-use Rattle.gaze.proofs.Picked.{at-or-below}
+use Rattle.gaze.proofs.Tests.{at-or-below}
 
 later-asym : {x y : List ℕ} → Later x y → Later y x → ⊥
 later-asym (here h) (here k) = omega arith

@@ -8,21 +8,21 @@ use native.Mathlib.Numerals.{add-one}
 use native.Mathlib.Omega.{arith}
 use borrow.Author.Tests.{eq-eqb, ne-eqb, eqb-true, eqb-false}
 use lib.Dec.{eqb}
-use lib.ListN.{length, getD, set, length-set}
+use lib.ListN.{length, getD, set, length-set, replicate, length-replicate}
 use lib.Seq.{getD-set-same, getD-set-other}
 use Rattle.gaze.specs.declared.Rule.{Rule}
 use Rattle.gaze.specs.Lists.{first-of, listed}
 use Rattle.gaze.specs.Columns.{rule-at}
-use Rattle.gaze.proofs.ListLaws.{listed-first, listed-none}
+use Rattle.gaze.proofs.ListLaws.{repeated, listed-first, listed-none}
 use Rattle.rules.specs.Tables.{Typed, of-types, numbered, Indexed}
 
-pub indexed-none : (rows : List ℕ) (count : ℕ) (table : List ℕ) → length table ≡ 1024 → ((j : ℕ) → getD table j 0 ≡ 0) → Indexed rows count count table
+pub indexed-none : (rows : List ℕ) (count : ℕ) (table : List ℕ) → table ≡ replicate 1024 0 → Indexed rows count count table
 unfolding first-of
-indexed-none rows count table long zeros =
+indexed-none rows count table e =
     record {
-      long = long;
-      is = λ a b h k. rw (listed-none (rule-at rows) count count refl, zeros (32 * a + b)) refl;
-      within = λ j. rw (zeros j) (omega arith);
+      long = rw e (length-replicate {A = ℕ} 1024 0);
+      is = λ a b h k. rw (e, listed-none (rule-at rows) count count refl, repeated {A = ℕ} 1024 0 (32 * a + b)) refl;
+      within = λ j. rw (e, repeated {A = ℕ} 1024 0 j) (omega arith);
     }
 
 -- the place of a pair of types is its own

@@ -1,1 +1,3 @@
 pub mod Index
+pub mod Interrupters
+pub mod Steps

@@ -1,3 +1,5 @@
+-- `rule_at` is right because it reads the nine numbers of the row, each at its place.
+use mathlib.Core.Path.{refl}
 use borrow.Author.Needs.{needs}
 use Rattle.rules.proofs.rule_at.Statement.{statement}
 use Rattle.rules.proofs.rule_at.Tie as tie
@@ -119,7 +121,7 @@ shared-slice-read-t30 c = search needs
 
 -- src/lib.rt:33:1
 returns : tie.Need-returns
-returns c = rw (c .before .before .before .before .before .before .interruption-of .ensures) ?
+returns c = rw (c .before .before .before .before .before .before .interruption-of .ensures) refl
 
 pub rule-at-spec : {M : Type 1} → statement M
 rule-at-spec =
