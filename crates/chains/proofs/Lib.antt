@@ -1,0 +1,3 @@
+pub mod Choices
+pub mod Traces
+pub mod Pairs
