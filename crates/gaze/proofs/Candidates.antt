@@ -3,7 +3,8 @@
 use mathlib.Core.Path.{_≡_, sym, ap, _∙_}
 use mathlib.Core.Logic.{_⊎_, inl, inr, ⊎-elim}
 use mathlib.Core.List.{List, [], _∷_, _++_}
-use Prim.Native.Nat.{ℕ, suc, _+_, _≤_}
+use Prim.Native.Nat.{ℕ, suc, _+_, _≤_, _<_}
+use native.Mathlib.Nat.{eq-or-lt-of-le}
 use native.Mathlib.Omega.{arith}
 use lib.ListN.{length, getD, length-append, List·getD-append, List·getD-eq-default}
 use lib.Seq.{ext-getD}
@@ -11,7 +12,7 @@ use Rattle.gaze.specs.declared.Feature.{Feature}
 use Rattle.gaze.specs.Lists.{Each, Adjacent, listed}
 use Rattle.gaze.specs.Sheet.{Sheet, begin, end, candidates, candidate, end-number}
 use Rattle.gaze.specs.Ranges.{Within, Thousandths, FeatureRanges, Before, InOrder, feature-keys, InRange}
-use Rattle.gaze.proofs.ListLaws.{each-at, each-append, each-map, adjacent-pairs, listed-length, listed-at}
+use Rattle.gaze.proofs.ListLaws.{each-at, each-append, each-map, adjacent-all, listed-length, listed-at}
 use Rattle.gaze.proofs.Tests.{at-or-below}
 
 pub record Placed (f : Feature) : Type 0 where
@@ -89,7 +90,10 @@ module _ (sheet : Sheet) (r : InRange sheet) where
   pub never-falls : (a b : ℕ) → a ≤ b → b ≤ end-number sheet → candidate sheet a .position ≤ candidate sheet b .position
   unfolding candidate
   never-falls a b h k =
-      adjacent-pairs NotBehind (λ f. omega arith) (λ f g e p q. omega arith) (end sheet) (candidates sheet) in-order a b h (rw candidates-length (omega arith))
+      ⊎-elim
+      (λ (e : a ≡ b). rw e (omega arith))
+      (λ (lt : a < b). adjacent-all NotBehind (λ f g e p q. omega arith) (end sheet) (candidates sheet) in-order a b lt (rw candidates-length (omega arith)))
+      (eq-or-lt-of-le h)
 
 -- the F lines are candidates 1 to n
 pub features-listed : (sheet : Sheet) → sheet .features ≡ listed (candidate sheet) 1 (length (sheet .features))

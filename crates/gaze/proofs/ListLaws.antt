@@ -74,30 +74,18 @@ adjacent-at R d (a ∷ []) p i h = absurd (none-in h)
 adjacent-at R d (a ∷ b ∷ l) p zero h = p .0
 adjacent-at R d (a ∷ b ∷ l) p (suc i) h = adjacent-at R d (b ∷ l) (p .1) i (omega arith)
 
--- a relation that goes from each entry to the next, and onward, goes to every later entry
-module _ {A : Type 0} (R : A → A → Type 0) (itself : (a : A) → R a a) (onward : (a b c : A) → R a b → R b c → R a c) (d : A) where
-  to-later : (a : A) (l : List A) → Adjacent R (a ∷ l) → (j : ℕ) → j ≤ length l → R a (getD (a ∷ l) j d)
-  unfolding Adjacent
-  to-later a l p zero h = itself a
-  to-later a [] p (suc j) h = absurd (none-in h)
-    where
-      none-in : {j : ℕ} → suc j ≤ 0 → ⊥
-      none-in h = omega arith
-  to-later a (b ∷ l) p (suc j) h = onward a b (getD (b ∷ l) j d) (p .0) (to-later b l (p .1) j (omega arith))
-
-  pub adjacent-pairs : (l : List A) → Adjacent R l → (i j : ℕ) → i ≤ j → j < length l → R (getD l i d) (getD l j d)
-  unfolding Adjacent
-  adjacent-pairs [] p i j h k = absurd (none-below k)
-  adjacent-pairs (a ∷ l) p zero j h k = to-later a l p j (omega arith)
-  adjacent-pairs (a ∷ l) p (suc i) zero h k = absurd (none-in h)
-    where
-      none-in : {i : ℕ} → suc i ≤ 0 → ⊥
-      none-in h = omega arith
-  adjacent-pairs (a ∷ []) p (suc i) (suc j) h k = absurd (none-in k)
-    where
-      none-in : {j : ℕ} → suc j < 1 → ⊥
-      none-in h = omega arith
-  adjacent-pairs (a ∷ b ∷ l) p (suc i) (suc j) h k = adjacent-pairs (b ∷ l) (p .1) i j (omega arith) (omega arith)
+-- where R is transitive, each entry and every later one
+pub adjacent-all : {A : Type 0} (R : A → A → Type 0) → ((a b c : A) → R a b → R b c → R a c) → (d : A) (l : List A) → Adjacent R l
+    → (i j : ℕ) → i < j → j < length l → R (getD l i d) (getD l j d)
+adjacent-all R trans d l p i zero h k = absurd (none-below h)
+adjacent-all R trans d l p i (suc j) h k =
+    ⊎-elim
+    (λ (e : i ≡ j). rw e (adjacent-at R d l p j k))
+    (λ (lt : i < j). trans (getD l i d) (getD l j d) (getD l (suc j) d) (adjacent-all R trans d l p i j lt (omega arith)) (adjacent-at R d l p j k))
+    (eq-or-lt-of-le (le-down h))
+  where
+    le-down : {a b : ℕ} → a < suc b → a ≤ b
+    le-down h = omega arith
 
 -- ---- what is kept of a list that grows at the end
 keep-one : {A : Type 0} (b : Bool) (a : A) (l m : List A) → cond b (a ∷ (l ++ m)) (l ++ m) ≡ cond b (a ∷ l) l ++ m
@@ -193,20 +181,73 @@ listed-joined f lo m (suc n) =
     regroup : (lo m n : ℕ) → lo + (m + n) ≡ lo + m + n
     regroup lo m n = omega arith
 
+-- the first of them apart
 pub listed-first : {A : Type 0} (f : ℕ → A) (lo n : ℕ) → listed f lo (suc n) ≡ f lo ∷ listed f (suc lo) n
 unfolding listed
-listed-first f lo n =
-    ap (listed f lo) (one-more n)
-    ∙ (listed-joined f lo 1 n ∙ ap₂ (λ (i j : ℕ). f i ∷ listed f j n) (zero-right lo) (one-right lo))
+listed-first f lo zero = rw (zero-right lo) refl
   where
-    one-more : (n : ℕ) → suc n ≡ 1 + n
-    one-more n = omega arith
+    zero-right : (m : ℕ) → m + 0 ≡ m
+    zero-right m = omega arith
+listed-first f lo (suc n) = rw (listed-first f lo n, suc-right lo n) refl
+  where
+    suc-right : (m n : ℕ) → m + suc n ≡ suc m + n
+    suc-right m n = omega arith
 
-    zero-right : (lo : ℕ) → lo + 0 ≡ lo
-    zero-right lo = omega arith
+-- where all of them pass a test, and where none does
+pub listed-kept : {A : Type 0} (test : A → Bool) (f : ℕ → A) (lo n : ℕ) → ((i : ℕ) → lo ≤ i → i < lo + n → test (f i) ≡ true)
+    → keep test (listed f lo n) ≡ listed f lo n
+unfolding listed keep
+listed-kept test f lo zero h = refl
+listed-kept test f lo (suc n) h =
+    keep-in test (listed f lo n) (f (lo + n)) (h (lo + n) (omega arith) (omega arith))
+    ∙ ap (λ (l : List _). l ++ (f (lo + n) ∷ [])) (listed-kept test f lo n (λ i l u. h i l (omega arith)))
 
-    one-right : (lo : ℕ) → lo + 1 ≡ suc lo
-    one-right lo = omega arith
+pub listed-dropped : {A : Type 0} (test : A → Bool) (f : ℕ → A) (lo n : ℕ) → ((i : ℕ) → lo ≤ i → i < lo + n → test (f i) ≡ false)
+    → keep test (listed f lo n) ≡ []
+unfolding listed keep
+listed-dropped test f lo zero h = refl
+listed-dropped test f lo (suc n) h =
+    keep-out test (listed f lo n) (f (lo + n)) (h (lo + n) (omega arith) (omega arith))
+    ∙ listed-dropped test f lo n (λ i l u. h i l (omega arith))
+
+keep-joined : {A : Type 0} (test : A → Bool) (f : ℕ → A) (k m n : ℕ) → n ≡ k + m
+    → keep test (listed f 0 n) ≡ keep test (listed f 0 k) ++ keep test (listed f k m)
+keep-joined test f k m n e =
+    let zero-left : 0 + k ≡ k = omega arith in
+    ap (λ (i : ℕ). keep test (listed f 0 i)) e
+    ∙ (ap (keep test) (listed-joined f 0 k m ∙ ap (λ (i : ℕ). listed f 0 k ++ listed f i m) zero-left)
+    ∙ keep-append test (listed f 0 k) (listed f k m))
+
+-- where those from lo to hi pass it, and no others do
+pub listed-part : {A : Type 0} (test : A → Bool) (f : ℕ → A) (lo hi n : ℕ) → lo ≤ hi → hi ≤ n
+    → ((i : ℕ) → i < lo → test (f i) ≡ false)
+    → ((i : ℕ) → lo ≤ i → i < hi → test (f i) ≡ true)
+    → ((i : ℕ) → hi ≤ i → i < n → test (f i) ≡ false)
+    → keep test (listed f 0 n) ≡ listed f lo (hi - lo)
+listed-part test f lo hi n h k before within after =
+    let none-before = listed-dropped test f 0 lo (λ i l u. before i (omega arith)) in
+    let all-within = listed-kept test f lo (hi - lo) (λ i l u. within i l (omega arith)) in
+    let none-after = listed-dropped test f hi (n - hi) (λ i l u. after i l (omega arith)) in
+    keep-joined test f hi (n - hi) n (omega arith)
+    ∙ (ap₂ _++_ (keep-joined test f lo (hi - lo) hi (omega arith) ∙ ap₂ _++_ none-before all-within) none-after
+    ∙ append-nil (listed f lo (hi - lo)))
+
+-- ---- what holds of the entries of f 0 .. f (n - 1), by number
+module _ {A : Type 0} (f : ℕ → A) (n : ℕ) where
+  at-number : (i : ℕ) → i < n → getD (listed f 0 n) i (f 0) ≡ f i
+  at-number i h = listed-at f 0 n (f 0) i h ∙ ap f (zero-left i)
+    where
+      zero-left : (i : ℕ) → 0 + i ≡ i
+      zero-left i = omega arith
+
+  pub listed-each : (P : A → Type 0) → Each P (listed f 0 n) → (i : ℕ) → i < n → P (f i)
+  listed-each P p i h = rw (at-number i h) at (each-at P (f 0) (listed f 0 n) p i (rw (listed-length f 0 n) h))
+
+  pub listed-adjacent : (R : A → A → Type 0) → ((a b c : A) → R a b → R b c → R a c) → Adjacent R (listed f 0 n)
+      → (i j : ℕ) → i < j → j < n → R (f i) (f j)
+  listed-adjacent R trans p i j h k =
+      rw (at-number i (omega arith), at-number j k) at
+      (adjacent-all R trans (f 0) (listed f 0 n) p i j h (rw (listed-length f 0 n) k))
 
 -- ---- whether some entry passes
 pub some-append : {A : Type 0} (test : A → Bool) (l m : List A) → some-of test (l ++ m) ≡ (some-of test l || some-of test m)

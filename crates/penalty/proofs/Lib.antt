@@ -1,0 +1,7 @@
+pub mod Expanded
+pub mod Search
+pub mod Sizes
+pub mod Lines
+pub mod Curves
+pub mod Functions
+pub mod FromSheet

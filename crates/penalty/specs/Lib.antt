@@ -1,0 +1,2 @@
+pub mod Intron
+pub mod Rows
