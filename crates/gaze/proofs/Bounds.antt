@@ -220,7 +220,7 @@ module _ (sheet : Sheet) (r : InRange sheet) where
           let e = q .end in
           record { kind = q .kind; start = (s .0, omega arith); end = (e .0, omega arith); score = q .score }
 
-  region-size : (s t : Feature) → Placed s → Placed t → natAbs (region-score (sheet .qualifiers) (sheet .segments) s t) ≤ 640000000000000
+  pub region-size : (s t : Feature) → Placed s → Placed t → natAbs (region-score (sheet .qualifiers) (sheet .segments) s t) ≤ 640000000000000
   region-size s t h k =
       let a = h .position in
       let b = k .position in

@@ -29,11 +29,7 @@ numbered-some rows (suc k) h = ap (λ (j : ℕ). some (rule-at rows j)) (one-dow
     one-down k = omega arith
 
 module _ (sheet : Sheet) (kinds positions rows table : List ℕ) (h : Legality sheet kinds positions rows table) where
-  count : ℕ
-  count = length (sheet .rules)
-
-  rule-ranges : (k : ℕ) → k < count → RuleRanges (rule-at rows k)
-  unfolding count
+  pub rule-ranges : (k : ℕ) → k < length (sheet .rules) → RuleRanges (rule-at rows k)
   rule-ranges k lt =
       let at : getD (sheet .rules) k (rule-at rows 0) ≡ rule-at rows k =
       ap (λ (l : List Rule). getD l k (rule-at rows 0)) (h .rules .is) ∙ (listed-at (rule-at rows) 0 (length (sheet .rules)) (rule-at rows 0) k lt ∙ ap (rule-at rows) (zero-add k)) in
@@ -41,10 +37,9 @@ module _ (sheet : Sheet) (kinds positions rows table : List ℕ) (h : Legality s
 
   -- what the code asks at each pair
   pub lookup : (s t : ℕ) → s ≤ t → t ≤ end-number sheet → Lookup rows table (getD kinds s 0) (getD kinds t 0) (getD positions s 0) (getD positions t 0)
-  unfolding count
   lookup s t le to =
       record {
-        count = count;
+        count = length (sheet .rules);
         rows-long = h .rules .long;
         table-long = h .indexed .long;
         within = h .indexed .within;
@@ -60,12 +55,12 @@ module _ (sheet : Sheet) (kinds positions rows table : List ℕ) (h : Legality s
   met-is s t last seen r i =
       ap (λ (b : Bool). meets-distance r (distance s t) && (meets-phase r (distance s t) && not b)) (seen-is (sheet .features) t s last seen (r .interruption) i)
 
-  by-number : (s t : Feature) (last : List ℕ) → LastSeen (sheet .features) t last → (k : ℕ) → k ≤ count
+  by-number : (s t : Feature) (last : List ℕ) → LastSeen (sheet .features) t last → (k : ℕ) → k ≤ length (sheet .rules)
       → by-rule (numbered rows k) (λ r. met r (s .position) (t .position) last) false ≡ by-rule (numbered rows k) (λ r. meets (sheet .features) r s t) false
   by-number s t last seen zero le = refl
   by-number s t last seen (suc k) le = met-is s t last seen (rule-at rows k) (rule-ranges k (omega arith) .interruption)
 
-  rule-is : (s t : Feature) → s .kind ≤ 31 → t .kind ≤ 31 → rule-of (sheet .rules) s t ≡ numbered rows (getD table (32 * s .kind + t .kind) 0)
+  pub rule-is : (s t : Feature) → s .kind ≤ 31 → t .kind ≤ 31 → rule-of (sheet .rules) s t ≡ numbered rows (getD table (32 * s .kind + t .kind) 0)
   unfolding rule-of
   rule-is s t a b = ap (first-of (of-types (s .kind) (t .kind))) (h .rules .is ∙ ap (listed (rule-at rows) 0) (less-none (length (sheet .rules)))) ∙ h .indexed .is (s .kind) (t .kind) (omega arith) (omega arith)
     where
@@ -74,7 +69,7 @@ module _ (sheet : Sheet) (kinds positions rows table : List ℕ) (h : Legality s
 
   pub looked-up-is : (s t : ℕ) (last : List ℕ) → s ≤ end-number sheet → t ≤ end-number sheet → LastSeen (sheet .features) (candidate sheet t) last
       → looked-up rows table (getD kinds s 0) (getD kinds t 0) (getD positions s 0) (getD positions t 0) last ≡ legal sheet s t
-  unfolding legal count
+  unfolding legal
   looked-up-is s t last from to seen =
       rw
       (h .candidates .kind s from, h .candidates .kind t to, h .candidates .position s from, h .candidates .position t to)
