@@ -7,8 +7,8 @@ ghost use mathlib.Core.List.{_++_, reverse};
 ghost use Prim.Native.Nat.{_+_, _<_, _≤_};
 ghost use lib.Dec.{T};
 ghost use lib.ListN.{length, drop};
-ghost use Rattle.gaze.specs.Chain.{Chain};
-ghost use Rattle.chains.specs.Tables.{row-steps, Sources, Choosing, way-back, Tracing};
+ghost use Rattle.gaze.specs.Chain.{Steps, Chain};
+ghost use Rattle.chains.specs.Tables.{row-steps, Sources, Choosing, Row, Searched, Room, SameLengths, way-back, Tracing};
 
 // What has been chosen among the sources so far: `found` says whether there is one, and no low score stands for "none".
 pub struct Choice {
@@ -52,7 +52,7 @@ fn consider<'a>(
 }
 
 // The choice among all sources of the target `e`, whose steps the rows `legal` and `gains` hold.
-pub fn pick<'a>(
+fn pick<'a>(
     legal: &'a [bool],
     gains: &'a [i64],
     reach: &'a [bool],
@@ -73,6 +73,39 @@ pub fn pick<'a>(
         s += 1;
     }
     c
+}
+
+// The entry of BEGIN, which is reached with nothing gained.
+pub fn begin(reach: &mut [bool], value: &mut [i64], from: &mut [u32])
+    requires { ⌜ Room 0 (now reach) (now value) (now from) ⌝ }
+    ensures { λ _. ⌜ SameLengths (now (reach .entry)) (now (reach .exit)) (now (value .entry)) (now (value .exit)) (now (from .entry)) (now (from .exit)) ⌝ }
+    ensures { λ _. ⌜ ((m : Steps) → Searched m 1 (now (reach .exit)) (now (value .exit)) (now (from .exit))) ⌝ }
+{
+    reach[0] = true;
+    value[0] = 0;
+    from[0] = 0;
+}
+
+// The entry of the target `e`, from the rows of its steps and the entries before it.
+pub fn settle<'a>(
+    legal: &'a [bool],
+    gains: &'a [i64],
+    e: usize,
+    reach: &mut [bool],
+    value: &mut [i64],
+    from: &mut [u32],
+)
+    requires { ⌜ Sources e (now legal) (now gains) (now reach) (now value) ⌝ ∗ ⌜ Room e (now reach) (now value) (now from) ⌝ ∗ ⌜ 0 < e ⌝ }
+    ensures { λ _. ⌜ SameLengths (now (reach .entry)) (now (reach .exit)) (now (value .entry)) (now (value .exit)) (now (from .entry)) (now (from .exit)) ⌝ }
+    ensures { λ _. ⌜ ((m : Steps) → Row m e (now (legal .entry)) (now (gains .entry)) → Searched m e (now (reach .entry)) (now (value .entry)) (now (from .entry)) → Searched m (e + 1) (now (reach .exit)) (now (value .exit)) (now (from .exit))) ⌝ }
+{
+    let c = pick(legal, gains, reach, value, e);
+    let found = c.found;
+    let best = c.value;
+    let source = c.from;
+    reach[e] = found;
+    value[e] = best;
+    from[e] = source as u32;
 }
 
 // How many candidates the way from `e` back to 0 has.

@@ -1,6 +1,6 @@
 -- The choice among the sources of one target, and how it is made source by source: a later one with no smaller a total takes the place, so of
 -- equals the latest stays. That is the tie rule, read at one candidate.
-use mathlib.Core.Path.{_≡_, refl, sym, subst}
+use mathlib.Core.Path.{_≡_, refl, sym, ap, _∙_, subst}
 use mathlib.Core.Logic.{_⊎_, inl, inr, ⊎-elim}
 use mathlib.Core.Bool.{Bool, true, false, not}
 use Prim.Native.Nat.{ℕ, zero, suc, _≤_, _<_, zero-le}
@@ -107,3 +107,22 @@ module _ (m : Steps) (reach : ℕ → Bool) (value : ℕ → ℤ) (e : ℕ) wher
       where
         earlier : (s : ℕ) → s < i → lo ≤ s → NoMore (value i +ℤ m .gain i e) s
         earlier s lt a x z = ⊎-elim (λ y. ≤ℤ-trans (p .most y s a lt x z) (h y)) (λ n. absurd (p .nothing n s a lt x z)) (bool-cases r)
+
+-- a choice among sources is one for any steps that agree on them
+pub picked-same : (m m′ : Steps) (reach : ℕ → Bool) (value : ℕ → ℤ) {e hi : ℕ} {r : Bool} {v : ℤ} {f : ℕ}
+    → ((s : ℕ) → s < hi → m .legal s e ≡ m′ .legal s e) → ((s : ℕ) → s < hi → T (m .legal s e) → m .gain s e ≡ m′ .gain s e)
+    → Picked m reach value e 0 hi r v f → Picked m′ reach value e 0 hi r v f
+picked-same m m′ reach value {e} {hi} {r} {v} {f} legals gains p =
+    record {
+      nothing = λ n s a lt x z. p .nothing n s a lt (old s lt x) z;
+      above = p .above;
+      below = p .below;
+      legal = λ y. subst T (legals f (p .below y)) (p .legal y);
+      reached = p .reached;
+      worth = λ y. ap (λ (z : ℤ). value f +ℤ z) (sym (gains f (p .below y) (p .legal y))) ∙ p .worth y;
+      most = λ y s a lt x z. subst (λ (g : ℤ). (value s +ℤ g) ≤ℤ v) (gains s lt (old s lt x)) (p .most y s a lt (old s lt x) z);
+      latest = λ y s a lt x z same. p .latest y s a lt (old s lt x) z (ap (λ (g : ℤ). value s +ℤ g) (gains s lt (old s lt x)) ∙ same);
+    }
+  where
+    old : (s : ℕ) → s < hi → T (m′ .legal s e) → T (m .legal s e)
+    old s lt x = subst T (sym (legals s lt)) x
