@@ -7,7 +7,8 @@ use native.Mathlib.Nat.{eq-or-lt-of-le}
 use native.Mathlib.Omega.{arith}
 use lib.IntN.{ℤ}
 use lib.ListN.{getD}
-use Rattle.penalty.specs.Rows.{Rising, Curve, RowEnds}
+use Rattle.sorted.specs.Sorted.{Rising}
+use Rattle.penalty.specs.Rows.{Curve, RowEnds}
 
 module _ {distances : List ℕ} {penalties : List ℤ} {lo hi : ℕ} (curve : Curve distances penalties lo hi) where
   pub curve-rises : Rising distances lo hi

@@ -10,14 +10,15 @@ use native.Mathlib.Omega.{arith}
 use borrow.Author.Tests.{eq-eqb, ne-eqb, leb-true, leb-false}
 use lib.Dec.{eqb, leb}
 use lib.IntN.{ℤ, pos}
-use lib.ListN.{getD}
+use lib.ListN.{length, getD}
 use Rattle.gaze.specs.Lists.{listed}
 use Rattle.gaze.specs.Columns.{point-at}
 use Rattle.gaze.specs.Ranges.{PointRanges, Before, point-keys}
 use Rattle.gaze.specs.Penalty.{points-of, penalty}
 use Rattle.gaze.proofs.ListLaws.{listed-same, listed-part, listed-each, listed-adjacent}
 use Rattle.gaze.proofs.OrderLaws.{before-trans}
-use Rattle.penalty.specs.Rows.{PointColumns, place, row, rows-of, row-penalty, Rising, First, FirstRows, Curve, Curves}
+use Rattle.penalty.specs.Rows.{PointColumns, place, row, rows-of, row-penalty, Curve, Curves}
+use Rattle.sorted.specs.Sorted.{Rising, First, FirstRows}
 use Rattle.penalty.proofs.Functions.{penalty-intron, same-points, rows-kept}
 
 module _ {functions distances : List ℕ} {penalties : List ℤ} {count : ℕ} (sheet : PointColumns functions distances penalties count) where
@@ -33,12 +34,12 @@ module _ {functions distances : List ℕ} {penalties : List ℤ} {count : ℕ} (
       (eq-or-lt-of-le m)
 
   -- the rows of one function
-  module _ {first : List ℕ} (firsts : FirstRows functions count first) {f : ℕ} (known : f ≤ 16) where
+  module _ {first : List ℕ} (firsts : (length first ≡ 18) × FirstRows functions count first) {f : ℕ} (known : f ≤ 16) where
     begins : First functions 0 count f (getD first f 0)
-    begins = firsts .at f (omega arith)
+    begins = firsts .1 .at f (omega arith)
 
     ends : First functions 0 count (f + 1) (getD first (f + 1) 0)
-    ends = firsts .at (f + 1) (omega arith)
+    ends = firsts .1 .at (f + 1) (omega arith)
 
     function-is : (i : ℕ) → getD first f 0 ≤ i → i < getD first (f + 1) 0 → getD functions i 0 ≡ f
     function-is i l u =
@@ -97,7 +98,7 @@ module _ {functions distances : List ℕ} {penalties : List ℤ} {count : ℕ} (
         above h e = omega arith
 
   -- ---- what the callers of `penalty_at` cite
-  module _ {first : List ℕ} (firsts : FirstRows functions count first) where
+  module _ {first : List ℕ} (firsts : (length first ≡ 18) × FirstRows functions count first) where
     pub sheet-curves : Curves distances penalties first
     sheet-curves = record { at = λ f known. curve-of firsts known }
 

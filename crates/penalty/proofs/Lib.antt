@@ -1,5 +1,4 @@
 pub mod Expanded
-pub mod Search
 pub mod Sizes
 pub mod Lines
 pub mod Curves

@@ -36,20 +36,6 @@ rows-of distances penalties first function =
 abbrev pub row-penalty : List ℕ → List ℤ → List ℕ → ℕ → ℕ → ℤ
 row-penalty distances penalties first function d = penalty (rows-of distances penalties first function) function d
 
-abbrev pub Rising : List ℕ → ℕ → ℕ → Type 0
-Rising column lo hi = (i j : ℕ) → lo ≤ i → i ≤ j → j < hi → getD column i 0 ≤ getD column j 0
-
--- Row r is the first of rows lo to hi whose number is x or more, and hi where there is none.
-pub record First (column : List ℕ) (lo hi x r : ℕ) : Type 0 where
-  pub begun : lo ≤ r
-  pub within : r ≤ hi
-  pub less : (i : ℕ) → lo ≤ i → i < r → getD column i 0 < x
-  pub enough : (i : ℕ) → r ≤ i → i < hi → x ≤ getD column i 0
-
--- Where the rows of each function begin, and those of 16 end.
-pub record FirstRows (functions : List ℕ) (count : ℕ) (first : List ℕ) : Type 0 where
-  pub at : (f : ℕ) → f < 18 → First functions 0 count f (getD first f 0)
-
 -- Rows lo to hi are points of one function: by rising distance, and in range.
 pub record Curve (distances : List ℕ) (penalties : List ℤ) (lo hi : ℕ) : Type 0 where
   pub ordered : lo ≤ hi

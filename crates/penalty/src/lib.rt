@@ -8,7 +8,8 @@ ghost use Prim.Native.Nat.{ℕ, _+_, _<_, _≤_};
 ghost use lib.ListN.{length};
 ghost use Rattle.gaze.specs.Penalty.{on-line, interpolated, intron-penalty};
 ghost use Rattle.penalty.specs.Intron.{IntronTable};
-ghost use Rattle.penalty.specs.Rows.{place, row, rows, row-penalty, Rising, First, FirstRows, Curve, Curves, Ends, RowEnds};
+ghost use Rattle.penalty.specs.Rows.{place, row, rows, row-penalty, Curve, Curves, Ends, RowEnds};
+ghost use Rattle.sorted.specs.Sorted.{Rising, First, FirstRows};
 
 // Function 17's table, made once by a caller that then lends it.
 pub fn intron_table() -> [i64; 1024]
@@ -28,35 +29,13 @@ fn intron_at(intron: &[i64; 1024], d: u32) -> i64
     }
 }
 
-// The first of rows `lo` to `hi` whose number is `x` or more.
-fn first_from(column: &[u32], lo: usize, hi: usize, x: u32) -> usize
-    requires { ⌜ lo ≤ hi ⌝ ∗ ⌜ hi ≤ length (now column) ⌝ ∗ ⌜ Rising (now column) lo hi ⌝ }
-    ensures { λ r. ⌜ First (now (column .entry)) lo hi x r ⌝ }
-{
-    let mut a = lo;
-    let mut b = hi;
-    while a < b {
-        let m = a + (b - a) / 2;
-        if column[m] < x {
-            a = m + 1;
-        } else {
-            b = m;
-        }
-    }
-    a
-}
-
 // Where the rows of each function begin.
 pub fn first_rows(function: &[u32], count: usize) -> [usize; 18]
     requires { ⌜ count ≤ length (now function) ⌝ ∗ ⌜ Rising (now function) 0 count ⌝ }
-    ensures { λ r. ⌜ FirstRows (now (function .entry)) count r ⌝ }
+    ensures { λ r. ⌜ (length r ≡ 18) × FirstRows (now (function .entry)) count r ⌝ }
 {
     let mut first = [0usize; 18];
-    let mut f: usize = 0;
-    while f < 18 {
-        first[f] = first_from(function, 0, count, f as u32);
-        f += 1;
-    }
+    sorted::first_rows(function, count, &mut first);
     first
 }
 
@@ -94,7 +73,7 @@ fn curve_at<'a>(distance: &'a [u32], penalty: &'a [i64], lo: usize, hi: usize, d
     if lo == hi {
         return 0;
     }
-    let i = first_from(distance, lo, hi, d);
+    let i = sorted::first_from(distance, lo, hi, d);
     if i == lo {
         return penalty[lo];
     }

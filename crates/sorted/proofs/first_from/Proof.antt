@@ -2,10 +2,10 @@
 -- The loop's invariant: rows below `a` have less, and rows from `b` on have enough.
 use Prim.Native.Nat.{_-_}
 use native.Mathlib.Omega.{arith}
-use Rattle.penalty.proofs.Search.{Between, between-all, between-right, between-left, between-first}
+use Rattle.sorted.proofs.Search.{Between, between-all, between-right, between-left, between-first}
 use borrow.Author.Needs.{needs}
-use Rattle.penalty.proofs.first_from.Statement.{statement}
-use Rattle.penalty.proofs.first_from.Tie as tie
+use Rattle.sorted.proofs.first_from.Statement.{statement}
+use Rattle.sorted.proofs.first_from.Tie as tie
 
 abbrev Inv-loop : tie.InvT-loop
 Inv-loop column lo hi x a₀ b₀ a b = Between column lo hi x a b

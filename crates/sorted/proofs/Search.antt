@@ -6,7 +6,7 @@ use native.Mathlib.Omega.{arith}
 use borrow.Author.Count.{below-more}
 use lib.ListN.{length, getD, set}
 use lib.Seq.{getD-set-same, getD-set-other}
-use Rattle.penalty.specs.Rows.{Rising, First}
+use Rattle.sorted.specs.Sorted.{Rising, First}
 
 -- Rows below a have less than x, and rows from b on have enough.
 pub record Between (column : List ℕ) (lo hi x a b : ℕ) : Type 0 where
@@ -60,11 +60,11 @@ module _ (column : List ℕ) (lo hi x : ℕ) where
         enough = λ i v w. q .enough i (omega (arith, q .ordered)) w;
       }
 
--- one more function's first row is stored
-pub firsts-more : (functions first : List ℕ) (count f r : ℕ) → f < length first → ((k : ℕ) → k < f → First functions 0 count k (getD first k 0))
-    → First functions 0 count f r → (k : ℕ) → k < f + 1 → First functions 0 count k (getD (set first f r) k 0)
-firsts-more functions first count f r h all here =
-    below-more (λ k. First functions 0 count k (getD (set first f r) k 0)) f
+-- one more number's first row is stored
+pub firsts-more : (column first : List ℕ) (count f r : ℕ) → f < length first → ((k : ℕ) → k < f → First column 0 count k (getD first k 0))
+    → First column 0 count f r → (k : ℕ) → k < f + 1 → First column 0 count k (getD (set first f r) k 0)
+firsts-more column first count f r h all here =
+    below-more (λ k. First column 0 count k (getD (set first f r) k 0)) f
     (λ k l. rw (getD-set-other first f k r 0 (apart l)) (all k l))
     (rw (getD-set-same first f r 0 h) here)
   where
