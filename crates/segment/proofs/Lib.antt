@@ -1,0 +1,5 @@
+pub mod Picking
+pub mod Shares
+pub mod Plateaus
+pub mod Choosing
+pub mod Rates

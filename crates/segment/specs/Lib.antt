@@ -1,0 +1,5 @@
+pub mod Rows
+pub mod Maximum
+pub mod Peaks
+pub mod Choice
+pub mod Region
