@@ -19,7 +19,7 @@ use Rattle.gaze.specs.Columns.{segment-at}
 use Rattle.gaze.specs.SegmentScore.{reduced, meets-phase, meets-match, asked, chosen}
 use Rattle.gaze.specs.Ranges.{SegmentRanges}
 use Rattle.gaze.proofs.ListLaws.{keep-in, keep-out, keep-same, keep-twice, listed-more, listed-none, listed-same, listed-each}
-use Rattle.segment.specs.Rows.{stretch, row, rows, Good, Sound}
+use Rattle.rows.specs.Rows.{stretch, row, rows, Good, Sound}
 use Rattle.segment.specs.Choice.{fits, Put, Room, Kept}
 
 -- ---- the phase

@@ -1,5 +1,1 @@
-pub mod Picking
-pub mod Shares
-pub mod Plateaus
 pub mod Choosing
-pub mod Rates

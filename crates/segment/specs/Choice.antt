@@ -1,4 +1,4 @@
--- The segments that a Q line takes, written from one set of columns into another, and the column of their rates.
+-- The segments that a Q line takes, written from one set of columns into another.
 use mathlib.Core.Path.{_≡_}
 use mathlib.Core.Bool.{Bool, cond, _&&_}
 use mathlib.Core.List.{List}
@@ -8,8 +8,8 @@ use lib.IntN.{ℤ, pos}
 use lib.ListN.{length, getD, set}
 use Rattle.gaze.specs.declared.Segment.{Segment}
 use Rattle.gaze.specs.Lists.{keep, listed}
-use Rattle.gaze.specs.SegmentScore.{meets-phase, rate}
-use Rattle.segment.specs.Rows.{row, rows, Good}
+use Rattle.gaze.specs.SegmentScore.{meets-phase}
+use Rattle.rows.specs.Rows.{rows, Good}
 
 -- The part of what a Q line asks that no source position changes: a type and a phase.
 abbrev pub fits : ℕ → ℕ → ℕ → Segment → Bool
@@ -41,7 +41,3 @@ pub record Kept (test : Segment → Bool) (f : ℕ → Segment) (kind lo i at o 
   pub ends-kept : (j : ℕ) → j < at → getD ends j 0 ≡ getD ends₀ j 0
   pub scores-kept : (j : ℕ) → j < at → getD scores j (pos 0) ≡ getD scores₀ j (pos 0)
   pub each : (j : ℕ) → at ≤ j → j < o → Good 10000000 (getD starts j 0) (getD ends j 0) (getD scores j (pos 0))
-
--- The rates of rows lo to i stand in a column of their own.
-pub record Rated (starts ends : List ℕ) (scores : List ℤ) (lo i : ℕ) (rates : List ℤ) : Type 0 where
-  pub is : (kind j : ℕ) → lo ≤ j → j < i → getD rates j (pos 0) ≡ rate (row kind starts ends scores j)

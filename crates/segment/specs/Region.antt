@@ -1,17 +1,9 @@
--- The score of one region, over rows that a Q line takes, and what is asked of a sheet's columns.
-use mathlib.Core.Bool.{cond}
+-- What one region score asks of a sheet's columns.
 use mathlib.Core.List.{List}
 use Prim.Native.Nat.{ℕ, _≤_}
-use lib.Dec.{eqb}
 use lib.IntN.{ℤ}
 use lib.ListN.{length}
-use Rattle.gaze.specs.declared.Segment.{Segment}
-use Rattle.gaze.specs.SegmentScore.{largest-share, summed-rates}
-use Rattle.segment.specs.Rows.{Sound}
-
--- By the method alone: `segment-score` of segments that are all chosen.
-abbrev pub scored : ℕ → ℕ → ℕ → List Segment → ℤ
-scored method s t segments = cond (eqb method 1) (largest-share s t segments) (summed-rates s t segments)
+use Rattle.rows.specs.Rows.{Sound}
 
 -- A sheet's columns of segments, and a region from s to t.
 pub record Region (kinds starts ends : List ℕ) (scores : List ℤ) (count s t : ℕ) : Type 0 where

@@ -9,7 +9,7 @@ use mir.Syntax.{w64}
 use mir.Val.{SFits}
 use mir.Facts.{toZ-ofZ}
 use Rattle.gaze.specs.SegmentScore.{meets-match}
-use Rattle.segment.specs.Rows.{row}
+use Rattle.rows.specs.Rows.{row}
 use Rattle.segment.specs.Choice.{Kept}
 use Rattle.segment.proofs.Choosing.{kept-none, kept-more, kept-room}
 use borrow.Author.Needs.{needs}

@@ -3,7 +3,7 @@ use mathlib.Core.Path.{ap, _∙_}
 use native.Mathlib.Omega.{arith}
 use Rattle.whole.proofs.Bits.{back}
 use Rattle.gaze.specs.Columns.{segment-at}
-use Rattle.segment.specs.Region.{scored}
+use Rattle.rows.specs.Rows.{scored}
 use Rattle.segment.proofs.Choosing.{kept-sound, chosen-rows}
 use borrow.Author.Needs.{needs}
 use Rattle.segment.proofs.region_score.Statement.{statement}

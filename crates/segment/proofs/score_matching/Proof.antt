@@ -2,7 +2,7 @@
 use mathlib.Core.Path.{ap, _∙_}
 use native.Mathlib.Omega.{arith}
 use Rattle.whole.proofs.Bits.{back}
-use Rattle.segment.specs.Region.{scored}
+use Rattle.rows.specs.Rows.{scored}
 use Rattle.segment.proofs.Choosing.{kept-sound}
 use borrow.Author.Needs.{needs}
 use Rattle.segment.proofs.score_matching.Statement.{statement}
