@@ -107,6 +107,17 @@ unfolding keep
 keep-all test [] h = refl
 keep-all test (a ∷ l) h = rw (h a, keep-all test l h) refl
 
+-- of entries that all pass, and of entries that all do not
+pub keep-each : {A : Type 0} (test : A → Bool) (l : List A) → Each (λ a. test a ≡ true) l → keep test l ≡ l
+unfolding Each keep
+keep-each test [] p = refl
+keep-each test (a ∷ l) p = rw (p .0, keep-each test l (p .1)) refl
+
+pub keep-no : {A : Type 0} (test : A → Bool) (l : List A) → Each (λ a. test a ≡ false) l → keep test l ≡ []
+unfolding Each keep
+keep-no test [] p = refl
+keep-no test (a ∷ l) p = rw (p .0, keep-no test l (p .1)) refl
+
 -- by one test and then by another
 pub keep-twice : {A : Type 0} (p q : A → Bool) (l : List A) → keep q (keep p l) ≡ keep (λ a. p a && q a) l
 unfolding keep

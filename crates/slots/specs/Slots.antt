@@ -28,12 +28,16 @@ abbrev pub in-slot : ℕ → Segment → Bool
 in-slot j = fits (j / 4) (class-phase (j % 4)) (j % 4)
 
 -- ---- columns by slot
--- Rows at j to at (j + 1) are the segments of the slot j, for each slot below `count`; `total` rows in all.
+-- Rows at j to at (j + 1) are slot j's.
+abbrev pub slot-rows : ℕ → List ℕ → List ℕ → List ℕ → List ℤ → List Segment
+slot-rows j at starts ends scores = rows (j / 4) starts ends scores (getD at j 0) (getD at (j + 1) 0)
+
+-- They hold what `slot` says, for each slot below `count`; `total` rows in all.
 pub record Grouped (slot : ℕ → List Segment) (at starts ends : List ℕ) (scores : List ℤ) (count total : ℕ) : Type 0 where
   pub last : getD at count 0 ≡ total
   pub ordered : (j : ℕ) → j < count → getD at j 0 ≤ getD at (j + 1) 0
   pub within : (j : ℕ) → j < count → getD at (j + 1) 0 ≤ total
-  pub is : (j : ℕ) → j < count → rows (j / 4) starts ends scores (getD at j 0) (getD at (j + 1) 0) ≡ slot j
+  pub is : (j : ℕ) → j < count → slot-rows j at starts ends scores ≡ slot j
   pub each : (i : ℕ) → i < total → Good 10000000 (getD starts i 0) (getD ends i 0) (getD scores i (pos 0))
 
 -- The slots of some segments.
@@ -53,8 +57,7 @@ ends-at t g = eqb (g .end) t
 
 -- Of the slot j those that end at t, where the slot is used, else none.
 abbrev pub ending : List Bool → ℕ → List ℕ → List ℕ → List ℕ → List ℤ → ℕ → List Segment
-ending used t at starts ends scores j =
-    keep (λ g. getD used j false && ends-at t g) (rows (j / 4) starts ends scores (getD at j 0) (getD at (j + 1) 0))
+ending used t at starts ends scores j = keep (λ g. getD used j false && ends-at t g) (slot-rows j at starts ends scores)
 
 -- What narrowing asks: the slots' bounds rise, and the scratch columns have room for all rows.
 pub record Narrowing (at : List ℕ) (total : ℕ) (used : List Bool) (bounds starts ends : List ℕ) (scores : List ℤ) : Type 0 where
