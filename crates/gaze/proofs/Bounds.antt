@@ -25,7 +25,7 @@ use Rattle.gaze.specs.Penalty.{on-line, beyond, past, interpolated, intr
 use Rattle.gaze.specs.SegmentScore.{chosen, overlap, size, enters, largest, share, largest-share, rate, holds, rate-at, largest-rate, sum-over, summed-rates, segment-score}
 use Rattle.gaze.specs.Step.{distance, rule-of, of-pair, region-score, gained, by-rule, gain}
 use Rattle.gaze.specs.Ranges.{Thousandths, PointRanges, QualifierRanges, SegmentRanges, Before, InOrder, qualifier-keys, InRange}
-use Rattle.gaze.proofs.ListLaws.{each-map, each-kept}
+use Rattle.gaze.proofs.ListLaws.{each-map, each-mapped, each-kept}
 use Rattle.gaze.proofs.OrderLaws.{order-rest, order-head}
 use Rattle.gaze.proofs.Tests.{both}
 use Rattle.gaze.proofs.Candidates.{Placed, placed}
@@ -96,15 +96,10 @@ unfolding Each
 larger-size n z [] h e = h
 larger-size n z (y ∷ l) h e = larger-size n (larger-of z y) l (abs-larger z y n h (e .0)) (e .1)
 
-largest-size : (n : ℕ) (l : List ℤ) → Each (λ y. natAbs y ≤ n) l → natAbs (largest l) ≤ n
+pub largest-size : (n : ℕ) (l : List ℤ) → Each (λ y. natAbs y ≤ n) l → natAbs (largest l) ≤ n
 unfolding Each
 largest-size n [] e = omega arith
 largest-size n (z ∷ l) e = larger-size n z l (e .0) (e .1)
-
-mapped : (P : Segment → Type 0) (Q : ℤ → Type 0) (f : Segment → ℤ) (l : List Segment) → ((g : Segment) → P g → Q (f g)) → Each P l → Each Q (map f l)
-unfolding Each
-mapped P Q f [] h e = tt
-mapped P Q f (g ∷ l) h e = (h g (e .0), mapped P Q f l h (e .1))
 
 share-size : (a b : ℕ) (g : Segment) → Short g → SegmentsSize (share a b g)
 share-size a b g r =
@@ -122,7 +117,7 @@ share-size a b g r =
 shares-size : (a b : ℕ) (l : List Segment) → Each Short l → SegmentsSize (largest-share a b l)
 shares-size a b l e =
     largest-size 40000000000000 (map (share a b) (keep (enters a b) l))
-    (mapped Short SegmentsSize (share a b) (keep (enters a b) l) (share-size a b) (each-kept Short (enters a b) l e))
+    (each-mapped Short SegmentsSize (share a b) (keep (enters a b) l) (share-size a b) (each-kept Short (enters a b) l e))
 
 rate-size : (x : ℕ) (g : Segment) → Short g → natAbs (rate-at x g) ≤ 10000000000
 rate-size x g r =
@@ -133,7 +128,7 @@ rate-size x g r =
 largest-rate-size : (l : List Segment) (x : ℕ) → Each Short l → natAbs (largest-rate l x) ≤ 10000000000
 largest-rate-size l x e =
     largest-size 10000000000 (map (rate-at x) (keep (enters x x) l))
-    (mapped Short (λ z. natAbs z ≤ 10000000000) (rate-at x) (keep (enters x x) l) (rate-size x) (each-kept Short (enters x x) l e))
+    (each-mapped Short (λ z. natAbs z ≤ 10000000000) (rate-at x) (keep (enters x x) l) (rate-size x) (each-kept Short (enters x x) l e))
 
 pub sum-over-size : (f : ℕ → ℤ) (a n b : ℕ) → ((x : ℕ) → natAbs (f x) ≤ b) → natAbs (sum-over f a n) ≤ n * b
 unfolding sum-over

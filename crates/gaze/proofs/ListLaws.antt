@@ -1,8 +1,8 @@
 -- The laws of `Each`, `Adjacent`, `keep` and `listed`: by place, and over lists that grow at the end.
 use mathlib.Core.Logic.{⊎-elim}
 use mathlib.Core.Path.{_≡_, refl, sym, ap, ap₂, _∙_}
-use mathlib.Core.Bool.{Bool, true, false, cond, _||_}
-use mathlib.Core.List.{List, [], _∷_, _++_, append-nil, append-assoc, map}
+use mathlib.Core.Bool.{Bool, true, false, cond, _&&_, _||_}
+use mathlib.Core.List.{List, [], _∷_, _++_, append-nil, append-assoc, map, map-append}
 use Prim.Native.Nat.{ℕ, zero, suc, _+_, _-_, _<_, _≤_}
 use native.Mathlib.Nat.{eq-or-lt-of-le}
 use native.Mathlib.Omega.{arith}
@@ -35,6 +35,11 @@ pub each-map : {A : Type 0} (P Q : A → Type 0) (l : List A) → ((a : A) → P
 unfolding Each
 each-map P Q [] f p = tt
 each-map P Q (a ∷ l) f p = (f a (p .0), each-map P Q l f (p .1))
+
+pub each-mapped : {A B : Type 0} (P : A → Type 0) (Q : B → Type 0) (f : A → B) (l : List A) → ((a : A) → P a → Q (f a)) → Each P l → Each Q (map f l)
+unfolding Each
+each-mapped P Q f [] h p = tt
+each-mapped P Q f (a ∷ l) h p = (h a (p .0), each-mapped P Q f l h (p .1))
 
 -- what holds of each holds of each that is kept
 pub each-kept : {A : Type 0} (P : A → Type 0) (test : A → Bool) (l : List A) → Each P l → Each P (keep test l)
@@ -113,6 +118,47 @@ keep-length test (a ∷ l) = go (test a) (keep-length test l)
     go : (b : Bool) → length (keep test l) ≤ length l → length (cond b (a ∷ keep test l) (keep test l)) ≤ suc (length l)
     go true h = omega arith
     go false h = omega arith
+
+pub keep-same : {A : Type 0} (p q : A → Bool) (l : List A) → ((a : A) → p a ≡ q a) → keep p l ≡ keep q l
+unfolding keep
+keep-same p q [] h = refl
+keep-same p q (a ∷ l) h = rw (h a, keep-same p q l h) refl
+
+pub keep-all : {A : Type 0} (test : A → Bool) (l : List A) → ((a : A) → test a ≡ true) → keep test l ≡ l
+unfolding keep
+keep-all test [] h = refl
+keep-all test (a ∷ l) h = rw (h a, keep-all test l h) refl
+
+-- of entries that all pass, and of entries that all do not
+pub keep-each : {A : Type 0} (test : A → Bool) (l : List A) → Each (λ a. test a ≡ true) l → keep test l ≡ l
+unfolding Each keep
+keep-each test [] p = refl
+keep-each test (a ∷ l) p = rw (p .0, keep-each test l (p .1)) refl
+
+pub keep-no : {A : Type 0} (test : A → Bool) (l : List A) → Each (λ a. test a ≡ false) l → keep test l ≡ []
+unfolding Each keep
+keep-no test [] p = refl
+keep-no test (a ∷ l) p = rw (p .0, keep-no test l (p .1)) refl
+
+-- by one test and then by another
+pub keep-twice : {A : Type 0} (p q : A → Bool) (l : List A) → keep q (keep p l) ≡ keep (λ a. p a && q a) l
+unfolding keep
+keep-twice p q [] = refl
+keep-twice p q (a ∷ l) = rw (← keep-twice p q l) (go (p a))
+  where
+    go : (b : Bool) → keep q (cond b (a ∷ keep p l) (keep p l)) ≡ cond (b && q a) (a ∷ keep q (keep p l)) (keep q (keep p l))
+    go true = refl
+    go false = refl
+
+-- a test that a function does not change
+pub keep-map : {A B : Type 0} (f : A → B) (p : B → Bool) (q : A → Bool) (l : List A) → ((a : A) → p (f a) ≡ q a) → keep p (map f l) ≡ map f (keep q l)
+unfolding keep
+keep-map f p q [] h = refl
+keep-map f p q (a ∷ l) h = rw (h a, keep-map f p q l h) (go (q a))
+  where
+    go : (b : Bool) → cond b (f a ∷ map f (keep q l)) (map f (keep q l)) ≡ map f (cond b (a ∷ keep q l) (keep q l))
+    go true = refl
+    go false = refl
 
 -- ---- the list that a function gives
 pub listed-more : {A : Type 0} (f : ℕ → A) (lo i : ℕ) → lo ≤ i → listed f lo (i + 1 - lo) ≡ listed f lo (i - lo) ++ (f i ∷ [])
@@ -232,6 +278,12 @@ listed-part test f lo hi n h k before within after =
     ∙ (ap₂ _++_ (keep-joined test f lo (hi - lo) hi (omega arith) ∙ ap₂ _++_ none-before all-within) none-after
     ∙ append-nil (listed f lo (hi - lo)))
 
+pub each-of-listed : {A : Type 0} (P : A → Type 0) (f : ℕ → A) (lo n : ℕ) → Each P (listed f lo n) → (i : ℕ) → lo ≤ i → i < lo + n → P (f i)
+each-of-listed P f lo n p i l u =
+    let h : i - lo < n = omega arith in
+    let e : lo + (i - lo) ≡ i = omega arith in
+    rw (listed-at f lo n (f lo) (i - lo) h, e) at (each-at P (f lo) (listed f lo n) p (i - lo) (rw (listed-length f lo n) h))
+
 -- ---- what holds of the entries of f 0 .. f (n - 1), by number
 module _ {A : Type 0} (f : ℕ → A) (n : ℕ) where
   at-number : (i : ℕ) → i < n → getD (listed f 0 n) i (f 0) ≡ f i
@@ -241,7 +293,7 @@ module _ {A : Type 0} (f : ℕ → A) (n : ℕ) where
       zero-left i = omega arith
 
   pub listed-each : (P : A → Type 0) → Each P (listed f 0 n) → (i : ℕ) → i < n → P (f i)
-  listed-each P p i h = rw (at-number i h) at (each-at P (f 0) (listed f 0 n) p i (rw (listed-length f 0 n) h))
+  listed-each P p i h = each-of-listed P f 0 n p i (omega arith) (omega arith)
 
   pub listed-adjacent : (R : A → A → Type 0) → ((a b c : A) → R a b → R b c → R a c) → Adjacent R (listed f 0 n)
       → (i j : ℕ) → i < j → j < n → R (f i) (f j)
@@ -268,3 +320,9 @@ pub some-none : {A : Type 0} (P : A → Type 0) (test : A → Bool) (l : List A)
 unfolding some-of Each
 some-none P test [] h e = refl
 some-none P test (a ∷ l) h e = rw (h a (e .0)) (some-none P test l h (e .1))
+
+pub map-listed : {A B : Type 0} (h : A → B) (f : ℕ → A) (lo n : ℕ) → map h (listed f lo n) ≡ listed (λ i. h (f i)) lo n
+unfolding listed
+map-listed h f lo zero = refl
+map-listed h f lo (suc n) =
+    map-append h (listed f lo n) (f (lo + n) ∷ []) ∙ ap (λ (l : List _). l ++ (h (f (lo + n)) ∷ [])) (map-listed h f lo n)

@@ -1,0 +1,4 @@
+pub mod Picking
+pub mod Shares
+pub mod Plateaus
+pub mod Rates

@@ -1,0 +1,5 @@
+pub mod Classes
+pub mod Counting
+pub mod Grouping
+pub mod StartOrder
+pub mod Lines
