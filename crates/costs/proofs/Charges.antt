@@ -25,7 +25,7 @@ use Rattle.gaze.proofs.Bounds.{penalty-size, region-size}
 use Rattle.penalty.specs.Rows.{row-penalty}
 use Rattle.rules.specs.Tables.{numbered, LegalRow}
 use Rattle.rules.proofs.Steps.{rule-ranges, rule-is}
-use Rattle.costs.specs.Rows.{charged, Charge, Costs, RegionRow, GainRow}
+use Rattle.costs.specs.Rows.{charged, Charge, Costs, GainRow}
 
 module _ {sheet : Sheet} {kinds positions : List ℕ} {scores : List ℤ} {rows table distances : List ℕ} {penalties : List ℤ} {first : List ℕ} {intron : List ℤ}
     (h : Costs sheet kinds positions scores rows table distances penalties first intron) (s t : ℕ) (le : s ≤ t) (to : t ≤ end-number sheet) where

@@ -7,13 +7,13 @@ use lib.Dec.{T}
 use lib.IntN.{ℤ, pos, natAbs, _+ℤ_, _-ℤ_}
 use lib.ListN.{length, getD}
 use Rattle.gaze.specs.declared.Point.{Point}
-use Rattle.gaze.specs.declared.Qualifier.{Qualifier}
-use Rattle.gaze.specs.Sheet.{Sheet, candidate, end-number}
+use Rattle.gaze.specs.Sheet.{Sheet, end-number}
 use Rattle.gaze.specs.Penalty.{penalty}
-use Rattle.gaze.specs.Step.{region-score, by-rule, gain}
+use Rattle.gaze.specs.Step.{by-rule, gain}
 use Rattle.gaze.specs.Columns.{Scores}
 use Rattle.penalty.specs.Intron.{IntronTable}
 use Rattle.penalty.specs.Rows.{Curves, row-penalty}
+use Rattle.lines.specs.Regions.{RegionRow}
 use Rattle.rules.specs.Tables.{numbered, Legality}
 
 -- The columns of points give every penalty of the sheet.
@@ -49,11 +49,6 @@ pub record Costs (sheet : Sheet) (kinds positions : List ℕ) (scores : List ℤ
   pub own : Scores sheet scores
   pub costs : Penalties (sheet .points) distances penalties first intron
 
--- For each legal step from lo to hi into t: its region score over these Q lines.
-pub record RegionRow (sheet : Sheet) (lines : List Qualifier) (t lo hi : ℕ) (legals : List Bool) (regions : List ℤ) : Type 0 where
-  pub is : (s : ℕ) → lo ≤ s → s < hi → T (getD legals s false)
-      → getD regions s (pos 0) ≡ region-score lines (sheet .segments) (candidate sheet s) (candidate sheet t)
-
 -- For each legal step from lo to hi into t: what it gains.
 pub record GainRow (sheet : Sheet) (t lo hi : ℕ) (legals : List Bool) (gains : List ℤ) : Type 0 where
   pub is : (s : ℕ) → lo ≤ s → s < hi → T (getD legals s false) → getD gains s (pos 0) ≡ gain sheet s t
@@ -64,4 +59,4 @@ pub record Scored (kinds positions : List ℕ) (scores : List ℤ) (rows table d
   pub held : Costs sheet kinds positions scores rows table distances penalties first intron
   pub from-one : 0 < t
   pub to-end : t ≤ end-number sheet
-  pub regions-are : RegionRow sheet (sheet .qualifiers) t lo hi legals regions
+  pub regions-are : RegionRow sheet t lo hi legals regions

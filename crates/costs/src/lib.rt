@@ -5,8 +5,9 @@ ghost use mathlib.Core.Bool.{true, cond};
 ghost use Prim.Native.Nat.{_≤_};
 ghost use lib.ListN.{length};
 ghost use Rattle.gaze.specs.Sheet.{Sheet, end-number};
+ghost use Rattle.lines.specs.Regions.{RegionRow};
 ghost use Rattle.rules.specs.Tables.{LegalRow};
-ghost use Rattle.costs.specs.Rows.{charged, Charge, Costs, RegionRow, GainRow, Scored};
+ghost use Rattle.costs.specs.Rows.{charged, Charge, Costs, GainRow, Scored};
 
 // The region's score, less the penalty of the pair's rule at the distance `d`, and the target's own score.
 fn charge<'a>(
@@ -90,7 +91,7 @@ pub fn charge_row<'a>(
     requires { ⌜ Scored (now kind) (now position) (now score) (now rules) (now table) (now distance) (now penalty) (now first) (now intron) t lo hi (now legal) (now gains) ⌝ }
     requires { ⌜ lo ≤ hi ⌝ ∗ ⌜ hi ≤ t ⌝ ∗ ⌜ hi ≤ length (now legal) ⌝ ∗ ⌜ hi ≤ length (now gains) ⌝ }
     ensures { λ _. ⌜ length (now (gains .exit)) ≡ length (now (gains .entry)) ⌝ }
-    ensures { λ _. ⌜ ((sheet : Sheet) → Costs sheet (now (kind .entry)) (now (position .entry)) (now (score .entry)) (now (rules .entry)) (now (table .entry)) (now (distance .entry)) (now (penalty .entry)) (now (first .entry)) (now (intron .entry)) → t ≤ end-number sheet → LegalRow sheet t lo hi (now (legal .entry)) → RegionRow sheet (sheet .qualifiers) t lo hi (now (legal .entry)) (now (gains .entry)) → GainRow sheet t lo hi (now (legal .entry)) (now (gains .exit))) ⌝ }
+    ensures { λ _. ⌜ ((sheet : Sheet) → Costs sheet (now (kind .entry)) (now (position .entry)) (now (score .entry)) (now (rules .entry)) (now (table .entry)) (now (distance .entry)) (now (penalty .entry)) (now (first .entry)) (now (intron .entry)) → t ≤ end-number sheet → LegalRow sheet t lo hi (now (legal .entry)) → RegionRow sheet t lo hi (now (legal .entry)) (now (gains .entry)) → GainRow sheet t lo hi (now (legal .entry)) (now (gains .exit))) ⌝ }
 {
     let target = kind[t];
     let p = position[t];

@@ -13,7 +13,8 @@ use Rattle.gaze.specs.Sheet.{Sheet, candidate, end-number}
 use Rattle.gaze.specs.Step.{region-score}
 use Rattle.whole.proofs.Bits.{back}
 use Rattle.rules.specs.Tables.{LegalRow}
-use Rattle.costs.specs.Rows.{Costs, RegionRow, GainRow}
+use Rattle.lines.specs.Regions.{RegionRow}
+use Rattle.costs.specs.Rows.{Costs, GainRow}
 use Rattle.rules.proofs.Steps.{lookup}
 use Rattle.costs.proofs.Charges.{region-read, own-read, charge-of, charged-is, yes, Charged, charged-none, charged-more}
 use Rattle.costs.proofs.charge_row.Statement.{statement}
@@ -24,7 +25,7 @@ use Rattle.costs.proofs.charge_legal.Reads as charge-legal-reads
 
 abbrev Inv-loop : tie.InvT-loop
 Inv-loop kind position score rules table distance penalty first intron t lo hi legal gains₀ target p own s₀ gains s =
-    ((lo ≤ s) × (s ≤ hi)) × ((length gains ≡ length gains₀) × (((i : ℕ) → s ≤ i → getD gains i (pos 0) ≡ getD gains₀ i (pos 0)) × ((sheet : Sheet) → Costs sheet kind position score rules table distance penalty first intron → t ≤ end-number sheet → LegalRow sheet t lo hi legal → RegionRow sheet (sheet .qualifiers) t lo hi legal gains₀ → Charged sheet t lo s legal gains₀ gains)))
+    ((lo ≤ s) × (s ≤ hi)) × ((length gains ≡ length gains₀) × (((i : ℕ) → s ≤ i → getD gains i (pos 0) ≡ getD gains₀ i (pos 0)) × ((sheet : Sheet) → Costs sheet kind position score rules table distance penalty first intron → t ≤ end-number sheet → LegalRow sheet t lo hi legal → RegionRow sheet t lo hi legal gains₀ → Charged sheet t lo s legal gains₀ gains)))
 
 abbrev μ-loop : tie.MeasureT-loop
 μ-loop kind position score rules table distance penalty first intron t lo hi legal gains₀ target p own s₀ gains s =
@@ -34,7 +35,7 @@ abbrev μ-loop : tie.MeasureT-loop
 region-is : (c : tie.After-shared-slice-known11 Inv-loop μ-loop)
     → let a = c .before .before .before .before .before .before .before .before .before .before .before .before .before .before .before in
     let p = a .pre .0 in
-    (sheet : Sheet) → RegionRow sheet (sheet .qualifiers) (a .args .t) (a .args .lo) (a .args .hi) (a .args .legal .now) (a .args .gains .now)
+    (sheet : Sheet) → RegionRow sheet (a .args .t) (a .args .lo) (a .args .hi) (a .args .legal .now) (a .args .gains .now)
     → T (getD (a .args .legal .now) (c .before .before .before .before .before .loop .s) false)
     → getD (c .before .before .before .before .before .loop .gains) (c .before .before .before .before .before .loop .s) (pos 0) ≡ region-score (sheet .qualifiers) (sheet .segments) (candidate sheet (c .before .before .before .before .before .loop .s)) (candidate sheet (a .args .t))
 region-is c sheet r y =
