@@ -90,10 +90,6 @@ module _ {sheet : Sheet} {kinds positions : List ℕ} {scores : List ℤ} {rows 
       (ap (λ (o : Option Rule). by-rule o (λ r. meets (sheet .features) r (candidate sheet s) (candidate sheet t)) false) (sym rule) ∙ ok)
       ∙ ap (λ (o : Option Rule). by-rule o (λ r. gained sheet r (candidate sheet s) (candidate sheet t)) (pos 0)) (sym rule))
 
-pub yes : (b : Bool) → T b → b ≡ true
-yes true y = refl
-yes false y = absurd y
-
 -- ---- a row of gains, one more: entries before i are gains, the others still the region scores that stood there
 pub record Charged (sheet : Sheet) (t lo i : ℕ) (legals : List Bool) (regions gains : List ℤ) : Type 0 where
   pub same : length gains ≡ length regions

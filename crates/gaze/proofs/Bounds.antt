@@ -88,7 +88,7 @@ penalty-size points function d e b =
 abbrev SegmentsSize : ℤ → Type 0
 SegmentsSize z = natAbs z ≤ 40000000000000
 
-abbrev Short : Segment → Type 0
+abbrev pub Short : Segment → Type 0
 Short g = SegmentRanges 4000000 g
 
 larger-size : (n : ℕ) (z : ℤ) (l : List ℤ) → natAbs z ≤ n → Each (λ y. natAbs y ≤ n) l → natAbs (foldl larger-of z l) ≤ n
@@ -205,7 +205,7 @@ sum-size n f (q ∷ l) h =
 
 -- ---- the gain
 module _ (sheet : Sheet) (r : InRange sheet) where
-  short : Each Short (sheet .segments)
+  pub short : Each Short (sheet .segments)
   short = each-map (SegmentRanges (sheet .sequence-length)) Short (sheet .segments) within (r .segments .each)
     where
       within : (g : Segment) → SegmentRanges (sheet .sequence-length) g → Short g

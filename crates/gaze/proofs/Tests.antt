@@ -1,4 +1,5 @@
 -- What the outcome of a test says, and the two ways in which numbers can stand.
+use mathlib.Core.Path.{_≡_, refl}
 use mathlib.Core.Logic.{_⊎_, inl, inr, ⊎-elim}
 use mathlib.Core.Bool.{Bool, true, false, not, _&&_}
 use Prim.Native.Nat.{ℕ, zero, suc, _≤_, _<_, zero-le}
@@ -8,6 +9,10 @@ use lib.Dec.{T}
 pub bool-cases : (b : Bool) → T b ⊎ T (not b)
 bool-cases true = inl tt
 bool-cases false = inr tt
+
+pub yes : (b : Bool) → T b → b ≡ true
+yes true y = refl
+yes false y = absurd y
 
 pub both : (a b : Bool) → T (a && b) → T a × T b
 both true b h = (tt, h)

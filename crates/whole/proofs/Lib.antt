@@ -2,4 +2,5 @@ pub mod Linear
 pub mod Order
 pub mod Size
 pub mod Quotients
+pub mod Sums
 pub mod Bits

@@ -12,11 +12,12 @@ use mathlib.Core.Bool.{false}
 use Rattle.gaze.specs.Sheet.{Sheet, candidate, end-number}
 use Rattle.gaze.specs.Step.{region-score}
 use Rattle.whole.proofs.Bits.{back}
+use Rattle.gaze.proofs.Tests.{yes}
 use Rattle.rules.specs.Tables.{LegalRow}
 use Rattle.lines.specs.Regions.{RegionRow}
 use Rattle.costs.specs.Rows.{Costs, GainRow}
 use Rattle.rules.proofs.Steps.{lookup}
-use Rattle.costs.proofs.Charges.{region-read, own-read, charge-of, charged-is, yes, Charged, charged-none, charged-more}
+use Rattle.costs.proofs.Charges.{region-read, own-read, charge-of, charged-is, Charged, charged-none, charged-more}
 use Rattle.costs.proofs.charge_row.Statement.{statement}
 use Rattle.costs.proofs.charge_row.Tie as tie
 use Rattle.costs.proofs.charge_row.Reads as reads
