@@ -58,7 +58,7 @@ region-of-requires : tie.Need-region-of-requires Inv-loop μ-loop
 region-of-requires c κs = pair-of (c .before .before .before .before .before .before .before .before .before .before .before .before .before .before .before .before .before .pre .0 .evidence) (c .before .before .before .before .loop .s) (omega arith)
 
 mul-t36 : tie.Need-mul-t36 Inv-loop μ-loop
-mul-t36 c = omega (arith, c .before .before .before .before .before .loop .inv .1 .0, c .before .before .before .before .before .before .before .before .before .before .before .before .before .before .before .before .before .before .pre .1)
+mul-t36 c = omega (arith, c .before .before .before .before .before .loop .inv .1 .0, c .before .before .before .before .before .before .before .before .before .before .before .before .before .before .before .before .before .before .pre .1, c .before .before .before .before .before .before .before .before .before .before .before .before .before .before .before .before .before .before .good)
 
 slice-set-from-regions : tie.Need-slice-set-from-regions Inv-loop μ-loop
 slice-set-from-regions c = omega (arith, c .before .before .before .before .before .loop .inv .1 .0, c .before .before .before .before .before .before .before .before .before .before .before .before .before .before .before .before .before .before .pre .1)
