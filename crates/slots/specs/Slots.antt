@@ -1,7 +1,7 @@
 -- Segments by slot. Of what a Q line asks, a type and a phase depend on no source position, and the phase only on the remainder of a segment's start:
 -- for phase 0, 1 and 2 a class 0 to 2, for phase 3 class 3, which holds all. Slot 4 k + c is class c of type k, so there are 64.
 use mathlib.Core.Path.{_≡_}
-use mathlib.Core.Bool.{Bool, false, cond, _&&_}
+use mathlib.Core.Bool.{Bool, true, false, cond, _&&_}
 use mathlib.Core.List.{List}
 use Prim.Native.Nat.{ℕ, _+_, _*_, _/_, _%_, _≤_, _<_}
 use lib.Dec.{eqb}
@@ -19,6 +19,12 @@ class-of phase t = cond (eqb phase 3) 3 ((t + 2 * phase) % 3)
 
 abbrev pub slot-of : ℕ → ℕ → ℕ → ℕ
 slot-of kind phase t = 4 * kind + class-of phase t
+
+-- Marks of the slots that a type and a phase can ask for, beside those that were there.
+pub record Marked (kind phase : ℕ) (used₀ used : List Bool) : Type 0 where
+  pub marked : (t : ℕ) → getD used (slot-of kind phase t) false ≡ true
+  pub kept : (j : ℕ) → getD used₀ j false ≡ true → getD used j false ≡ true
+  pub long : length used ≡ length used₀
 
 -- A phase that asks for the class c at the target position c.
 abbrev pub class-phase : ℕ → ℕ

@@ -7,9 +7,10 @@ ghost use Prim.Native.Nat.{ℕ, _-_, _<_, _≤_};
 ghost use lib.ListN.{length};
 ghost use Rattle.gaze.specs.Lists.{keep, listed};
 ghost use Rattle.gaze.specs.Columns.{segment-at};
+ghost use Rattle.gaze.specs.SegmentScore.{largest-share};
 ghost use Rattle.rows.specs.Rows.{row, rows, Sound, scored, Rated};
 ghost use Rattle.segment.specs.Choice.{Room, Kept};
-ghost use Rattle.slots.specs.Slots.{slot-of, class-phase, Grouped, Slots, starts-at, ends-at, ending, Narrowing};
+ghost use Rattle.slots.specs.Slots.{slot-of, class-phase, Marked, Grouped, Slots, starts-at, ends-at, ending, Narrowing};
 ghost use Rattle.slots.specs.Search.{Rising, FirstFrom, Starting};
 
 // ---- which slot
@@ -29,6 +30,21 @@ fn class_phase(class: u32) -> u32
     ensures { λ r. ⌜ r ≡ class-phase class ⌝ }
 {
     if class == 3 { 3 } else { 0 }
+}
+
+// Marks the slots that a Q line of this type and phase can ask for.
+pub fn mark(kind: u32, phase: u32, used: &mut [bool])
+    requires { ⌜ kind ≤ 15 ⌝ ∗ ⌜ phase ≤ 3 ⌝ ∗ ⌜ 64 ≤ length (now used) ⌝ }
+    ensures { λ _. ⌜ Marked kind phase (now (used .entry)) (now (used .exit)) ⌝ }
+{
+    let first = (4 * kind) as usize;
+    if phase == 3 {
+        used[first + 3] = true;
+        return;
+    }
+    used[first] = true;
+    used[first + 1] = true;
+    used[first + 2] = true;
 }
 
 // ---- the grouping
@@ -75,7 +91,7 @@ pub fn group<'a>(
     o
 }
 
-// ---- rows that start at a position
+// ---- rows by their starts
 
 // The first of rows `lo` to `hi` that starts at `s` or after it, or `hi`.
 fn first_from(start: &[u32], lo: usize, hi: usize, s: u32) -> usize
@@ -132,6 +148,31 @@ pub fn score_starting<'a>(
 {
     let span = starting_at(start, lo, hi, s);
     rows::score_rows(start, end, score, rate, span.lo, span.hi, method, s, t)
+}
+
+// The largest share among rows `lo` to `hi`. Rows that start behind the region are not looked at: they enter with 0.
+pub fn share_to<'a>(
+    start: &'a [u32],
+    end: &'a [u32],
+    score: &'a [i64],
+    lo: usize,
+    hi: usize,
+    s: u32,
+    t: u32,
+) -> i64
+    requires { ⌜ Rising (now start) lo hi ⌝ ∗ ⌜ Sound 10000000 (now start) (now end) (now score) lo hi ⌝ }
+    requires { ⌜ s ≤ t ⌝ ∗ ⌜ t ≤ 4000000 ⌝ }
+    ensures { λ r. ⌜ ((kind : ℕ) → r ≡ largest-share s t (rows kind (now (start .entry)) (now (end .entry)) (now (score .entry)) lo hi)) ⌝ }
+{
+    let behind = first_from(start, lo, hi, t + 1);
+    let value = rows::best_share(start, end, score, lo, behind, s, t);
+    if behind == hi {
+        return value;
+    }
+    if behind == lo {
+        return 0;
+    }
+    whole::larger(value, 0)
 }
 
 // ---- rows that end at a position
