@@ -7,7 +7,7 @@ use lib.Dec.{T, leb, leb→le}
 use lib.IntN.{ℤ, pos, negsuc, natAbs}
 use Rattle.gaze.specs.Lists.{Each, listed}
 use Rattle.gaze.specs.Columns.{segment-at}
-use Rattle.gaze.proofs.ListLaws.{listed-each}
+use Rattle.gaze.proofs.ListLaws.{each-of-listed}
 use Rattle.rows.specs.Rows.{row, Good, Sound}
 use Rattle.segment.specs.Region.{Region}
 use Rattle.segment_cases.specs.Cases.{cases}
@@ -46,7 +46,7 @@ region s t h k =
         starts-long = omega arith;
         ends-long = omega arith;
         scores-long = omega arith;
-        each = λ i l u. listed-each (λ g. Good 10000000 (g .start) (g .end) (g .score)) (row 0 starts ends scores) 0 11 all-good i l (omega arith);
+        each = λ i l u. each-of-listed (λ g. Good 10000000 (g .start) (g .end) (g .score)) (row 0 starts ends scores) 0 11 all-good i l (omega arith);
       };
       kinds-long = omega arith;
       few = omega arith;
