@@ -217,6 +217,7 @@ pub fn narrow_slots<'a>(
 ) -> usize
     requires { ⌜ Sound 10000000 (now start) (now end) (now score) 0 total ⌝ }
     requires { ⌜ Narrowing (now at) total (now used) (now bounds) (now starts) (now ends) (now scores) ⌝ }
+    ensures { λ r. ⌜ r ≤ total ⌝ }
     ensures { λ r. ⌜ Grouped (ending (now (used .entry)) t (now (at .entry)) (now (start .entry)) (now (end .entry)) (now (score .entry))) (now (bounds .exit)) (now (starts .exit)) (now (ends .exit)) (now (scores .exit)) 64 r ⌝ }
 {
     bounds[0] = 0;

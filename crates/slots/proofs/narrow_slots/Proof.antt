@@ -113,8 +113,9 @@ same-length-4 c = c .before .loop .inv .1 .0 .scores-long
 returns : tie.Need-returns Inv-loop μ-loop
 returns c =
     let l = c .before .loop in
+    let b = c .before .before .before .before .before .before .before .before .before in
     let e : l .j ≡ 64 = omega arith in
-    rw e at (l .inv .1 .0 .grouped)
+    (omega (arith, rw e at (l .inv .1 .1), b .pre .1 .within 63 (omega arith)), rw e at (l .inv .1 .0 .grouped))
 
 pub narrow-slots-spec : {M : Type 1} → statement M
 narrow-slots-spec =
