@@ -25,10 +25,10 @@ pub peak-rated : (l : List Segment) (x : ℕ) → peak (map rated l) x ≡ large
 peak-rated l x =
     ap largest (ap (map (held x)) (keep-map rated (enters x x) (enters x x) l (λ g. refl)) ∙ map-map (held x) rated (keep (enters x x) l))
 
-sum-same : (f g : ℕ → ℤ) (a n : ℕ) → ((x : ℕ) → f x ≡ g x) → sum-over f a n ≡ sum-over g a n
+pub sum-same : (f g : ℕ → ℤ) (a n : ℕ) → ((x : ℕ) → a ≤ x → x < a + n → f x ≡ g x) → sum-over f a n ≡ sum-over g a n
 unfolding sum-over
 sum-same f g a zero h = refl
-sum-same f g a (suc n) h = ap₂ _+ℤ_ (sum-same f g a n h) (h (a + n))
+sum-same f g a (suc n) h = ap₂ _+ℤ_ (sum-same f g a n (λ x l u. h x l (omega arith))) (h (a + n) (omega arith) (omega arith))
 
 -- ---- sizes
 pub rate-fits : (z : ℤ) → natAbs z ≤ 10000000 → natAbs (z *ℤ pos 1000) ≤ 10000000000
@@ -88,7 +88,7 @@ module _ (starts ends : List ℕ) (scores : List ℤ) (lo hi : ℕ) (rates : Lis
       → sum-over (peak (rows kind starts ends rates lo hi)) a n ≡ sum-over (largest-rate (rows kind starts ends scores lo hi)) a n
   rated-sum h r kind a n =
       sum-same (peak (rows kind starts ends rates lo hi)) (largest-rate (rows kind starts ends scores lo hi)) a n
-      (λ x. ap (λ (l : List Segment). peak l x) (rated-rows h r kind) ∙ peak-rated (rows kind starts ends scores lo hi) x)
+      (λ x l u. ap (λ (l : List Segment). peak l x) (rated-rows h r kind) ∙ peak-rated (rows kind starts ends scores lo hi) x)
 
 -- ---- by the method
 pub scored-shares : (method s t : ℕ) (l : List Segment) {z : ℤ} → method ≡ 1 → z ≡ largest-share s t l → z ≡ scored method s t l

@@ -2,7 +2,7 @@
 -- score and 0, so that a segment which cannot win need not be divided.
 use mathlib.Core.Path.{_≡_, refl, ap, _∙_}
 use mathlib.Core.Bool.{Bool, true, false, cond}
-use Prim.Native.Nat.{ℕ, zero, suc, _+_, _-_, _*_, _/_, _≤_, _<_}
+use Prim.Native.Nat.{ℕ, zero, suc, _+_, _-_, _*_, _/_, _≤_, _<_, zero-le}
 use native.Mathlib.Nat.{zero-div, mul-comm, mul-le-mul-right, div-le-of-le-mul}
 use native.Mathlib.Omega.{arith}
 use borrow.Author.Tests.{le-leb}
@@ -60,12 +60,24 @@ pub not-below : (x y : ℤ) → ltZ x y ≡ false → leZ y x ≡ true
 not-below x y h = test-true (leZ y x) (ltZ-no {a = x} {b = y} (rw h tt) .le)
 
 -- a maximum that a number not above it does not change
-larger-kept : (value z : ℤ) → leZ z value ≡ true → value ≡ larger-of value z
+pub larger-kept : (value z : ℤ) → leZ z value ≡ true → value ≡ larger-of value z
 larger-kept value z h = go (leZ value z) refl
   where
     go : (b : Bool) → leZ value z ≡ b → value ≡ cond (leZ value z) z value
     go true e = rw e (≤ℤ-antisymm (le-test e) (le-test h))
     go false e = rw e refl
+
+-- a maximum that 0 has entered is not below 0, and stays so
+pub larger-above : (value z : ℤ) → leZ (pos 0) value ≡ true → leZ (pos 0) (larger-of value z) ≡ true
+larger-above value z h = go (leZ value z) refl
+  where
+    go : (b : Bool) → leZ value z ≡ b → leZ (pos 0) (cond b z value) ≡ true
+    go true e = le-through (pos 0) value z h e
+    go false e = h
+
+pub larger-of-zero : (value : ℤ) → leZ (pos 0) (larger-of value (pos 0)) ≡ true
+larger-of-zero (pos n) = larger-above (pos n) (pos 0) (le-leb 0 n zero-le)
+larger-of-zero (negsuc n) = refl
 
 floor-low : (k n : ℕ) → leZ (floor-of (negℤ (pos k)) n) (pos 0) ≡ true
 floor-low zero n = ap (λ (m : ℕ). leb m 0) (zero-div n)

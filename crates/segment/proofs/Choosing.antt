@@ -84,6 +84,48 @@ pub row-same : (kind : ℕ) (starts ends starts′ ends′ : List ℕ) (scores s
     → getD scores i (pos 0) ≡ getD scores′ i (pos 0) → row kind starts ends scores i ≡ row kind starts′ ends′ scores′ i
 row-same kind starts ends starts′ ends′ scores scores′ i h l m = λ d. record { kind = kind; start = h d; end = l d; score = m d }
 
+not-here : {A : Type 0} (l : List A) (o : ℕ) (a d : A) (j : ℕ) → j < o → getD (set l o a) j d ≡ getD l j d
+not-here l o a d j m = getD-set-other l o j a d (λ c. omega arith)
+
+-- a row that is written at o stands behind the rows before it
+module _ (kind at o start end : ℕ) (score : ℤ) (starts ends : List ℕ) (scores : List ℤ) (room : Room o 1 starts ends scores) where
+  below-end : {n : ℕ} → o + 1 ≤ n → o < n
+  below-end h = omega arith
+
+  new-start : getD (set starts o start) o 0 ≡ start
+  new-start = getD-set-same starts o start 0 (below-end (room .starts-room))
+
+  new-end : getD (set ends o end) o 0 ≡ end
+  new-end = getD-set-same ends o end 0 (below-end (room .ends-room))
+
+  new-score : getD (set scores o score) o (pos 0) ≡ score
+  new-score = getD-set-same scores o score (pos 0) (below-end (room .scores-room))
+
+  pub rows-put : at ≤ o
+      → rows kind (set starts o start) (set ends o end) (set scores o score) at (o + 1) ≡ rows kind starts ends scores at o ++ (record { kind = kind; start = start; end = end; score = score } ∷ [])
+  rows-put b =
+      let old : rows kind (set starts o start) (set ends o end) (set scores o score) at o ≡ rows kind starts ends scores at o =
+      listed-same (row kind (set starts o start) (set ends o end) (set scores o score)) (row kind starts ends scores) at (o - at)
+      (λ j l m.
+      let n : j < o = omega arith in
+      row-same kind (set starts o start) (set ends o end) starts ends (set scores o score) scores j (not-here starts o start 0 j n) (not-here ends o end 0 j n) (not-here scores o score (pos 0) j n)) in
+      let new : row kind (set starts o start) (set ends o end) (set scores o score) o ≡ record { kind = kind; start = start; end = end; score = score } =
+      λ d. record { kind = kind; start = new-start d; end = new-end d; score = new-score d } in
+      listed-more (row kind (set starts o start) (set ends o end) (set scores o score)) at o b ∙ ap₂ (λ (l : List Segment) (a : Segment). l ++ (a ∷ [])) old new
+
+  pub goods-put : {most : ℕ} → ((j : ℕ) → at ≤ j → j < o → Good most (getD starts j 0) (getD ends j 0) (getD scores j (pos 0))) → Good most start end score
+      → (j : ℕ) → at ≤ j → j < o + 1 → Good most (getD (set starts o start) j 0) (getD (set ends o end) j 0) (getD (set scores o score) j (pos 0))
+  goods-put {most} each g j m n = ⊎-elim here earlier (eq-or-lt-of-le (le-down n))
+    where
+      le-down : j < o + 1 → j ≤ o
+      le-down h = omega arith
+
+      here : j ≡ o → Good most (getD (set starts o start) j 0) (getD (set ends o end) j 0) (getD (set scores o score) j (pos 0))
+      here e = rw (e, new-start, new-end, new-score) g
+
+      earlier : j < o → Good most (getD (set starts o start) j 0) (getD (set ends o end) j 0) (getD (set scores o score) j (pos 0))
+      earlier l = rw (not-here starts o start 0 j l, not-here ends o end 0 j l, not-here scores o score (pos 0) j l) (each j m l)
+
 module _ (test : Segment → Bool) (f : ℕ → Segment) (kind lo at : ℕ) (starts₀ ends₀ : List ℕ) (scores₀ : List ℤ) where
   pub kept-none : Kept test f kind lo lo at at starts₀ ends₀ scores₀ starts₀ ends₀ scores₀
   unfolding keep
@@ -122,60 +164,26 @@ module _ (test : Segment → Bool) (f : ℕ → Segment) (kind lo at : ℕ) (sta
       }
 
   -- it passes, and is written at o
-  module _ {i o : ℕ} {starts ends : List ℕ} {scores : List ℤ} (h : lo ≤ i) (q : Kept test f kind lo i at o starts₀ ends₀ scores₀ starts ends scores)
-      (y : test (f i) ≡ true) (start end : ℕ) (score : ℤ) (g : Good 10000000 start end score)
-      (is : f i ≡ record { kind = kind; start = start; end = end; score = score }) (room : Room o 1 starts ends scores) where
-    below-end : {n : ℕ} → o + 1 ≤ n → o < n
-    below-end h = omega arith
-
-    other : {A : Type 0} (l : List A) (a d : A) (j : ℕ) → j < o → getD (set l o a) j d ≡ getD l j d
-    other l a d j m = getD-set-other l o j a d (λ c. omega arith)
-
-    new-start : getD (set starts o start) o 0 ≡ start
-    new-start = getD-set-same starts o start 0 (below-end (room .starts-room))
-
-    new-end : getD (set ends o end) o 0 ≡ end
-    new-end = getD-set-same ends o end 0 (below-end (room .ends-room))
-
-    new-score : getD (set scores o score) o (pos 0) ≡ score
-    new-score = getD-set-same scores o score (pos 0) (below-end (room .scores-room))
-
-    new-row : row kind (set starts o start) (set ends o end) (set scores o score) o ≡ f i
-    new-row = (λ d. record { kind = kind; start = new-start d; end = new-end d; score = new-score d }) ∙ sym is
-
-    old-rows : rows kind (set starts o start) (set ends o end) (set scores o score) at o ≡ rows kind starts ends scores at o
-    old-rows =
-        listed-same (row kind (set starts o start) (set ends o end) (set scores o score)) (row kind starts ends scores) at (o - at)
-        (λ j l m.
-        let n : j < o = omega (arith, q .begun) in
-        row-same kind (set starts o start) (set ends o end) starts ends (set scores o score) scores j (other starts start 0 j n) (other ends end 0 j n) (other scores score (pos 0) j n))
-
-    old-good : (j : ℕ) → at ≤ j → j < o → Good 10000000 (getD (set starts o start) j 0) (getD (set ends o end) j 0) (getD (set scores o score) j (pos 0))
-    old-good j m n = rw (other starts start 0 j n, other ends end 0 j n, other scores score (pos 0) j n) (q .each j m n)
-
-    new-good : (j : ℕ) → j ≡ o → Good 10000000 (getD (set starts o start) j 0) (getD (set ends o end) j 0) (getD (set scores o score) j (pos 0))
-    new-good j n = rw (n, new-start, new-end, new-score) g
-
-    le-down : {j : ℕ} → j < o + 1 → j ≤ o
-    le-down h = omega arith
-
-    kept-in : Kept test f kind lo (i + 1) at (o + 1) starts₀ ends₀ scores₀ (set starts o start) (set ends o end) (set scores o score)
-    kept-in =
-        record {
-          begun = omega (arith, q .begun);
-          room = omega (arith, q .room);
-          is =
-              listed-more (row kind (set starts o start) (set ends o end) (set scores o score)) at o (q .begun)
-              ∙ (ap₂ (λ (l : List Segment) (a : Segment). l ++ (a ∷ [])) (old-rows ∙ q .is) new-row
-              ∙ sym (rw (listed-more f lo i h) (keep-in test (listed f lo (i - lo)) (f i) y)));
-          starts-long = length-set starts o start ∙ q .starts-long;
-          ends-long = length-set ends o end ∙ q .ends-long;
-          scores-long = length-set scores o score ∙ q .scores-long;
-          starts-kept = λ j m. other starts start 0 j (omega (arith, q .begun)) ∙ q .starts-kept j m;
-          ends-kept = λ j m. other ends end 0 j (omega (arith, q .begun)) ∙ q .ends-kept j m;
-          scores-kept = λ j m. other scores score (pos 0) j (omega (arith, q .begun)) ∙ q .scores-kept j m;
-          each = λ j m n. ⊎-elim (new-good j) (old-good j m) (eq-or-lt-of-le (le-down n));
-        }
+  kept-in : {i o : ℕ} {starts ends : List ℕ} {scores : List ℤ} → lo ≤ i → Kept test f kind lo i at o starts₀ ends₀ scores₀ starts ends scores → test (f i) ≡ true
+      → (start end : ℕ) (score : ℤ) → Good 10000000 start end score → f i ≡ record { kind = kind; start = start; end = end; score = score } → Room o 1 starts ends scores
+      → Kept test f kind lo (i + 1) at (o + 1) starts₀ ends₀ scores₀ (set starts o start) (set ends o end) (set scores o score)
+  kept-in {i} {o} {starts} {ends} {scores} h q y start end score g is room =
+      let b = q .begun in
+      record {
+        begun = omega arith;
+        room = omega (arith, q .room);
+        is =
+            rows-put kind at o start end score starts ends scores room b
+            ∙ (ap₂ (λ (l : List Segment) (a : Segment). l ++ (a ∷ [])) (q .is) (sym is)
+            ∙ sym (rw (listed-more f lo i h) (keep-in test (listed f lo (i - lo)) (f i) y)));
+        starts-long = length-set starts o start ∙ q .starts-long;
+        ends-long = length-set ends o end ∙ q .ends-long;
+        scores-long = length-set scores o score ∙ q .scores-long;
+        starts-kept = λ j m. not-here starts o start 0 j (omega arith) ∙ q .starts-kept j m;
+        ends-kept = λ j m. not-here ends o end 0 j (omega arith) ∙ q .ends-kept j m;
+        scores-kept = λ j m. not-here scores o score (pos 0) j (omega arith) ∙ q .scores-kept j m;
+        each = goods-put kind at o start end score starts ends scores room (q .each) g;
+      }
 
   -- either, from what `put` gives
   pub kept-more : {i o o′ : ℕ} {starts ends starts′ ends′ : List ℕ} {scores scores′ : List ℤ} → lo ≤ i → Kept test f kind lo i at o starts₀ ends₀ scores₀ starts ends scores

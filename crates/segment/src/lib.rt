@@ -71,7 +71,7 @@ fn fits_line(of: u32, kind: u32, phase: u32, t: u32, start: u32) -> bool
 }
 
 // Writes a row at `o` where `yes`, and returns the next place.
-fn put(
+pub fn put(
     yes: bool,
     o: usize,
     start: u32,

@@ -14,12 +14,12 @@ use lib.Seq.{getD-set-same, getD-set-other}
 use Rattle.gaze.specs.declared.Segment.{Segment}
 use Rattle.gaze.specs.Lists.{keep, listed}
 use Rattle.gaze.specs.SegmentScore.{meets-match}
-use Rattle.gaze.proofs.ListLaws.{keep-no, each-listed, listed-none, listed-same, listed-length}
+use Rattle.gaze.proofs.ListLaws.{keep-no, keep-length, each-listed, listed-none, listed-same, listed-length}
 use Rattle.gaze.proofs.Tests.{at-or-below}
 use Rattle.rows.specs.Rows.{row, rows, Good, Sound, Rated}
 use Rattle.segment.specs.Choice.{Room, Kept}
 use Rattle.segment.proofs.Choosing.{row-same}
-use Rattle.slots.specs.Slots.{in-slot, Grouped, slots-of, ends-at}
+use Rattle.slots.specs.Slots.{in-slot, slot-rows, Grouped, slots-of, Slots, ends-at}
 use Rattle.slots.proofs.Counting.{counted}
 
 -- ---- parts of columns
@@ -154,6 +154,13 @@ counted-more segments j {starts′ = starts′} {ends′ = ends′} {scores′ =
     let l : length (rows (j / 4) starts′ ends′ scores′ o o′) ≡ length (keep (in-slot j) segments) = ap length (k .is ∙ is) in
     let h : o′ ≡ counted (suc j) segments = omega (arith, l, listed-length (row (j / 4) starts′ ends′ scores′) o (o′ - o), c, k .begun) in
     h ∙ ap (λ (i : ℕ). counted i segments) (sym (add-one j))
+
+-- a slot has no more rows than there are segments
+pub slot-few : {segments : List Segment} {at starts ends : List ℕ} {scores : List ℤ} {total : ℕ} → Slots segments at starts ends scores total
+    → (j : ℕ) → j < 64 → getD at (j + 1) 0 - getD at j 0 ≤ length segments
+slot-few {segments} {at} {starts} {ends} {scores} s j h =
+    let l : length (slot-rows j at starts ends scores) ≡ length (keep (in-slot j) segments) = ap length (s .grouped .is j h) in
+    omega (arith, l, listed-length (row (j / 4) starts ends scores) (getD at j 0) (getD at (j + 1) 0 - getD at j 0), keep-length (in-slot j) segments)
 
 -- ---- the ways out of `narrow_slot`
 pub unused-kept : (used : Bool) (t kind lo hi at : ℕ) (f : ℕ → Segment) (starts ends : List ℕ) (scores : List ℤ) → lo ≤ hi → not used ≡ true

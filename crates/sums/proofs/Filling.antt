@@ -16,8 +16,10 @@ use Rattle.gaze.proofs.Tests.{at-or-below}
 use Rattle.rows.specs.Rows.{rows, Sound}
 use Rattle.rows.specs.Peaks.{peak}
 use Rattle.rows.proofs.Plateaus.{sum-joined, walk-size}
+use Rattle.rows.proofs.Rates.{sum-same}
 use Rattle.slots.proofs.Classes.{outcome}
-use Rattle.sums.specs.Table.{Upto, Filled, Small, Fill, SlotFill, Sums}
+use Rattle.sums.specs.Table.{Upto, Onward, Filled, Small, Fill, SlotFill, Sums}
+use Rattle.sums.specs.Window.{Near}
 
 -- a table of zeros is small
 pub zeros-small : (n : ℕ) → Small (replicate n (pos 0))
@@ -47,13 +49,18 @@ module _ (starts ends : List ℕ) (rates : List ℤ) (lo hi : ℕ) where
   unfolding sum-over
   upto-none = record { begun = omega arith; bounded = omega arith; is = λ kind. refl }
 
-  pub upto-more : {at to : ℕ} {sum more sum′ : ℤ} → Upto starts ends rates lo hi at sum → at ≤ to → to ≤ 4000001
-      → ((kind : ℕ) → more ≡ sum-over (peak (rows kind starts ends rates lo hi)) at (to - at)) → sum′ ≡ sum +ℤ more → Upto starts ends rates lo hi to sum′
-  upto-more {at} {to} u h l m e =
+  -- from a base where the sum is known on, by rows that have the same peaks between
+  pub upto-more : {at to few : ℕ} {sum sum′ : ℤ} {end : ℕ} {starts′ ends′ : List ℕ} {rates′ : List ℤ} {from at′ : ℕ} → Upto starts ends rates lo hi at sum → at ≤ to → to ≤ end → end ≤ 4000001
+      → from ≤ at → Near starts ends rates lo hi from end few starts′ ends′ rates′ → Onward starts′ ends′ rates′ 0 few at sum to at′ sum′ → Upto starts ends rates lo hi to sum′
+  upto-more {at} {to} {few} {starts′ = starts′} {ends′ = ends′} {rates′ = rates′} u h l m f n o =
       record {
         begun = omega (arith, u .begun);
-        bounded = l;
-        is = λ kind. e ∙ (ap₂ _+ℤ_ (u .is kind) (m kind) ∙ sym (sum-joined (peak (rows kind starts ends rates lo hi)) 1 at to (u .begun) h));
+        bounded = omega arith;
+        is = λ kind.
+            o .is kind
+            ∙ (ap₂ _+ℤ_ (u .is kind)
+            (sum-same (peak (rows kind starts′ ends′ rates′ 0 few)) (peak (rows kind starts ends rates lo hi)) at (to - at) (λ x a b. n .same kind x (omega arith) (omega arith)))
+            ∙ sym (sum-joined (peak (rows kind starts ends rates lo hi)) 1 at to (u .begun) h));
       }
 
   pub upto-small : {at : ℕ} {sum : ℤ} → Sound 10000000000 starts ends rates lo hi → Upto starts ends rates lo hi at sum → natAbs sum ≤ 40000010000000000

@@ -4,7 +4,7 @@ use mathlib.Core.Path.{_≡_}
 use mathlib.Core.Bool.{Bool, true, false}
 use mathlib.Core.List.{List}
 use Prim.Native.Nat.{ℕ, _+_, _-_, _*_, _≤_, _<_}
-use lib.IntN.{ℤ, pos, natAbs}
+use lib.IntN.{ℤ, pos, natAbs, _+ℤ_}
 use lib.ListN.{length, getD}
 use Rattle.gaze.specs.SegmentScore.{sum-over}
 use Rattle.rows.specs.Rows.{rows}
@@ -24,9 +24,10 @@ pub record Upto (starts ends : List ℕ) (rates : List ℤ) (lo hi at : ℕ) (su
   pub bounded : at ≤ 4000001
   pub is : (kind : ℕ) → sum ≡ sum-over (peak (rows kind starts ends rates lo hi)) 1 (at - 1)
 
-pub record Onward (starts ends : List ℕ) (rates : List ℤ) (lo hi to at : ℕ) (sum : ℤ) : Type 0 where
-  pub there : at ≡ to
-  pub upto : Upto starts ends rates lo hi at sum
+-- The sum of the peaks, from one base to another.
+pub record Onward (starts ends : List ℕ) (rates : List ℤ) (lo hi at : ℕ) (sum : ℤ) (to at′ : ℕ) (sum′ : ℤ) : Type 0 where
+  pub there : at′ ≡ to
+  pub is : (kind : ℕ) → sum′ ≡ sum +ℤ sum-over (peak (rows kind starts ends rates lo hi)) at (to - at)
 
 -- For each of the first n positions the sums up to it, without it and with it, from `base` on.
 pub record Filled (starts ends : List ℕ) (rates : List ℤ) (lo hi : ℕ) (positions : List ℕ) (base n : ℕ) (table : List ℤ) : Type 0 where
@@ -56,11 +57,12 @@ pub record Sums (used : List Bool) (at starts ends : List ℕ) (rates : List ℤ
   pub filled : (j : ℕ) → j < count → getD used j false ≡ true → Filled starts ends rates (getD at j 0) (getD at (j + 1) 0) positions (j * 2052) n table
   pub small : Small table
 
--- What the filling asks: the slots' bounds rise.
+-- What the filling asks: the slots' bounds rise, and no slot has more rows than a sheet has segments.
 pub record Filling (at : List ℕ) (total : ℕ) (used : List Bool) (table : List ℤ) : Type 0 where
   pub at-long : 64 < length at
   pub ordered : (j : ℕ) → j < 64 → getD at j 0 ≤ getD at (j + 1) 0
   pub within : (j : ℕ) → j < 64 → getD at (j + 1) 0 ≤ total
+  pub few : (j : ℕ) → j < 64 → getD at (j + 1) 0 - getD at j 0 ≤ 1024
   pub used-long : 64 ≤ length used
   pub room : 131328 ≤ length table
   pub small : Small table
