@@ -65,6 +65,15 @@ adjacent-at R d (a ∷ []) p i h = absurd (none-in h)
 adjacent-at R d (a ∷ b ∷ l) p zero h = p .0
 adjacent-at R d (a ∷ b ∷ l) p (suc i) h = adjacent-at R d (b ∷ l) (p .1) i (omega arith)
 
+-- one entry more at the end
+pub adjacent-more : {A : Type 0} (R : A → A → Type 0) (d : A) (l : List A) (a : A) → Adjacent R l → (0 < length l → R (getD l (length l - 1) d) a) → Adjacent R (l ++ (a ∷ []))
+unfolding Adjacent
+adjacent-more R d [] a p f = tt
+adjacent-more R d (b ∷ []) a p f = (f (omega arith), tt)
+adjacent-more R d (b ∷ e ∷ l) a p f =
+    let k : length (b ∷ e ∷ l) - 1 ≡ suc (length (e ∷ l) - 1) = omega arith in
+    (p .0, adjacent-more R d (e ∷ l) a (p .1) (λ h. rw k at (f (omega arith))))
+
 -- a relation that goes from each entry to the next, and onward, goes to every later entry
 module _ {A : Type 0} (R : A → A → Type 0) (itself : (a : A) → R a a) (onward : (a b c : A) → R a b → R b c → R a c) (d : A) where
   to-later : (a : A) (l : List A) → Adjacent R (a ∷ l) → (j : ℕ) → j ≤ length l → R a (getD (a ∷ l) j d)
@@ -192,6 +201,20 @@ listed-first f lo n =
 
     one-right : (lo : ℕ) → lo + 1 ≡ suc lo
     one-right lo = omega arith
+
+-- what a function makes of a list, where another gives the same by place
+pub map-listed : {A B : Type 0} (g : A → B) (f : ℕ → B) (d : A) (lo : ℕ) (l : List A) → ((i : ℕ) → i < length l → f (lo + i) ≡ g (getD l i d)) → map g l ≡ listed f lo (length l)
+unfolding listed
+map-listed g f d lo [] h = refl
+map-listed g f d lo (a ∷ l) h =
+    ap₂ _∷_ (sym (ap f (zero-right lo) ∙ h zero (omega arith))) (map-listed g f d (suc lo) l (λ i k. ap f (suc-left lo i) ∙ h (suc i) (omega arith)))
+    ∙ sym (listed-first f lo (length l))
+  where
+    zero-right : (lo : ℕ) → lo ≡ lo + 0
+    zero-right lo = omega arith
+
+    suc-left : (lo i : ℕ) → suc lo + i ≡ lo + suc i
+    suc-left lo i = omega arith
 
 -- ---- whether some entry passes
 pub some-append : {A : Type 0} (test : A → Bool) (l m : List A) → some-of test (l ++ m) ≡ (some-of test l || some-of test m)
