@@ -27,7 +27,8 @@ use Rattle.columns.proofs.Laying.{laid-at, sets-at, sets-before, sets-after}
 use Rattle.trailer.specs.Trailer.{part}
 use Rattle.tables.specs.Records.{length-of, point-of, rule-of, qualifier-of, feature-of, segment-of}
 use Rattle.tables.specs.Parts.{group-at, PartRead}
-use Rattle.tables.specs.Tables.{Places, with-features}
+use Rattle.tables.specs.Tables.{Places}
+use Rattle.tables.proofs.Fields.{length-field}
 
 -- ---- a group that was read
 pub record Got (letter : Letter) (bases : ℕ) (o : Outcome) (tally : Tally) (rows : List (List ℤ)) : Type 0 where
@@ -122,6 +123,14 @@ length-held {o = o} g old column z e =
     go [] h = refl
     go (row ∷ []) h = refl
     go (row ∷ r ∷ rows) h = let x : ⊥ = omega arith in absurd x
+
+pub length-small : {bases : ℕ} {o : Outcome} {tally : Tally} {rows : List (List ℤ)} → Got L bases o tally rows → length-of (o .rows) ≤ 4000000
+unfolding Each
+length-small {bases} {o} g = go (o .rows) (g .sound .each)
+  where
+    go : (rows : List (List ℤ)) → Each (RowRanges L bases) rows → length-of rows ≤ 4000000
+    go [] e = omega arith
+    go (row ∷ rows) e = length-field bases row (e .0 .ranged) .high
 
 -- ---- what the columns hold
 module _ (rows : List (List ℤ)) where

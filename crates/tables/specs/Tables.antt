@@ -22,6 +22,7 @@ use Rattle.tables.specs.Records.{length-of, point-of, rule-of, qualifier
 pub record LengthRead (o : Outcome) (r : Length) : Type 0 where
   pub fault : r .fault ≡ o .fault
   pub bases : r .bases ≡ length-of (o .rows)
+  pub small : r .bases ≤ 4000000
 
 pub record PointsRead (o : Outcome) (r : PointColumns) : Type 0 where
   pub fault : r .fault ≡ o .fault

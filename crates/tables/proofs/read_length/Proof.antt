@@ -2,7 +2,7 @@
 use mathlib.Core.Path.{refl}
 use native.Mathlib.Omega.{arith}
 use Rattle.tables.proofs.Fields.{length-field, one-small}
-use Rattle.tables.proofs.Held.{got, fault-is, lays, length-held}
+use Rattle.tables.proofs.Held.{got, fault-is, lays, length-held, length-small}
 use borrow.Author.Needs.{needs}
 use Rattle.tables.proofs.read_length.Statement.{statement}
 use Rattle.tables.proofs.read_length.Tie as tie
@@ -30,7 +30,8 @@ array-read-t19 c = search needs
 returns : tie.Need-returns
 returns c =
     let g = got (c .before .before .before .before .before .before .read-part .ensures) in
-    record { fault = fault-is g; bases = length-held g _ _ refl (c .before .lay .ensures) }
+    let e = length-held g _ _ refl (c .before .lay .ensures) in
+    record { fault = fault-is g; bases = e; small = rw e (length-small g) }
 
 pub read-length-spec : {M : Type 1} → statement M
 read-length-spec =
