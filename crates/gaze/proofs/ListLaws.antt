@@ -35,6 +35,11 @@ unfolding Each
 each-map P Q [] f p = tt
 each-map P Q (a ∷ l) f p = (f a (p .0), each-map P Q l f (p .1))
 
+pub each-mapped : {A B : Type 0} (P : A → Type 0) (Q : B → Type 0) (f : A → B) (l : List A) → ((a : A) → P a → Q (f a)) → Each P l → Each Q (map f l)
+unfolding Each
+each-mapped P Q f [] h p = tt
+each-mapped P Q f (a ∷ l) h p = (h a (p .0), each-mapped P Q f l h (p .1))
+
 -- what holds of each holds of each that is kept
 pub each-kept : {A : Type 0} (P : A → Type 0) (test : A → Bool) (l : List A) → Each P l → Each P (keep test l)
 unfolding Each keep
@@ -73,6 +78,13 @@ adjacent-more R d (b ∷ []) a p f = (f (omega arith), tt)
 adjacent-more R d (b ∷ e ∷ l) a p f =
     let k : length (b ∷ e ∷ l) - 1 ≡ suc (length (e ∷ l) - 1) = omega arith in
     (p .0, adjacent-more R d (e ∷ l) a (p .1) (λ h. rw k at (f (omega arith))))
+
+-- of entries made from those of another list, of each of which P holds
+pub adjacent-mapped : {A B : Type 0} (P : A → Type 0) (R : A → A → Type 0) (S : B → B → Type 0) (f : A → B) (l : List A) → ((a b : A) → P a → P b → R a b → S (f a) (f b)) → Each P l → Adjacent R l → Adjacent S (map f l)
+unfolding Each Adjacent
+adjacent-mapped P R S f [] h e p = tt
+adjacent-mapped P R S f (a ∷ []) h e p = tt
+adjacent-mapped P R S f (a ∷ b ∷ l) h e p = (h a b (e .0) (e .1 .0) (p .0), adjacent-mapped P R S f (b ∷ l) h (e .1) (p .1))
 
 -- a relation that goes from each entry to the next, and onward, goes to every later entry
 module _ {A : Type 0} (R : A → A → Type 0) (itself : (a : A) → R a a) (onward : (a b c : A) → R a b → R b c → R a c) (d : A) where

@@ -1,10 +1,10 @@
 -- The rows that a group is read into: no more than its most, each in its ranges, in order, and each with its offset at place 9.
-use mathlib.Core.Path.{_≡_, refl}
+use mathlib.Core.Path.{_≡_, refl, sym, _∙_}
 use mathlib.Core.Bool.{Bool, true, false, cond}
 use mathlib.Core.List.{List, [], _∷_, _++_}
-use Prim.Native.Nat.{ℕ, zero, suc, _+_, _≤_}
+use Prim.Native.Nat.{ℕ, zero, suc, _+_, _≤_, _<_}
 use native.Mathlib.Omega.{arith}
-use borrow.Author.Tests.{eqb-true}
+use borrow.Author.Tests.{eqb-true, eqb-false}
 use lib.Dec.{T, eqb}
 use lib.IntN.{ℤ, pos}
 use lib.ListN.{length, getD, set, length-append}
@@ -69,3 +69,30 @@ module _ (letter : Letter) (bases : ℕ) where
           (passes letter bases done (line-of letter (l .bytes) .malformed) (row-at offset (line-of letter (l .bytes))) (eqb-true _ 0 e))
           (placed-at (line-of letter (l .bytes) .values) 9 offset))
       go false e next = s
+
+-- ---- a group with a line and no fault has a row
+either-long : (b : Bool) (o x : Outcome) (n : ℕ) → n ≤ length (o .rows) → n ≤ length (x .rows) → n ≤ length (cond b o x .rows)
+either-long true o x n h k = h
+either-long false o x n h k = k
+
+grown : (letter : Letter) (bases offset : ℕ) (done : List (List ℤ)) (ls : List Line) → length done ≤ length (read letter bases offset done ls .rows)
+unfolding read
+grown letter bases offset done [] = omega arith
+grown letter bases offset done (l ∷ ls) =
+    let row = row-at offset (line-of letter (l .bytes)) in
+    let number = fault letter bases done (line-of letter (l .bytes) .malformed) row in
+    either-long (eqb number 0) (read letter bases (offset + length (l .bytes) + 1) (done ++ (row ∷ [])) ls) (record { fault = record { number = number; place = offset }; rows = done }) (length done)
+    (omega (arith, length-append done (row ∷ []), grown letter bases (offset + length (l .bytes) + 1) (done ++ (row ∷ [])) ls))
+    (omega arith)
+
+unrefused : (number : ℕ) (b : Bool) → eqb number 0 ≡ b → (o x : Outcome) → x .fault .number ≡ number → cond b o x .fault .number ≡ 0 → 0 < length (o .rows) → 0 < length (cond b o x .rows)
+unrefused number true e o x q z h = h
+unrefused number false e o x q z h = absurd (eqb-false number 0 e (sym q ∙ z))
+
+pub some-row : (letter : Letter) (bases offset : ℕ) (l : Line) (ls : List Line) → read letter bases offset [] (l ∷ ls) .fault .number ≡ 0 → 0 < length (read letter bases offset [] (l ∷ ls) .rows)
+unfolding read
+some-row letter bases offset l ls z =
+    let row = row-at offset (line-of letter (l .bytes)) in
+    let number = fault letter bases [] (line-of letter (l .bytes) .malformed) row in
+    unrefused number (eqb number 0) refl (read letter bases (offset + length (l .bytes) + 1) (row ∷ []) ls) (record { fault = record { number = number; place = offset }; rows = [] }) refl z
+    (grown letter bases (offset + length (l .bytes) + 1) (row ∷ []) ls)

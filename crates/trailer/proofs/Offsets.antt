@@ -132,8 +132,9 @@ module _ (bytes : List ℕ) (top : ℕ) (l : Row) (a : Last bytes top l) where
     pub trailer-right : (s ≡ 0 → ⊥) → _≡_ {A = Trailer} (record { refused = false; offsets = p ∷ r ∷ q ∷ f ∷ s ∷ top ∷ [] }) (trailer-of bytes)
     trailer-right z = sym (trailer-is ∙ rw (malformed-is false e, eq-eqb (getD bytes (length bytes - 1) 0) 10 (a .ended), le-leb 1 s (omega arith)) refl)
 
--- ---- the offsets do not fall, and stay within the sheet
+-- ---- the first offset is not 0, none falls, and all stay within the sheet
 pub record Rising (offsets : List ℕ) (size : ℕ) : Type 0 where
+  pub first : 1 ≤ getD offsets 0 0
   pub p-r : getD offsets 0 0 ≤ getD offsets 1 0
   pub r-q : getD offsets 1 0 ≤ getD offsets 2 0
   pub q-f : getD offsets 2 0 ≤ getD offsets 3 0
@@ -171,5 +172,5 @@ module _ (bytes : List ℕ) (e : trailer-of bytes .refused ≡ false) where
       let rq = offset-rises bytes top r (field row 2) (rf .0) in
       let rr = offset-rises bytes top p (field row 1) (rq .0) in
       let k : Rising (p ∷ r ∷ q ∷ f ∷ s ∷ top ∷ []) (length bytes) =
-      record { p-r = rr .1; r-q = rq .1; q-f = rf .1; f-s = rs .1; s-t = rs .2; inside = omega (arith, last-below bytes (length bytes - 1)) } in
+      record { first = rr .0; p-r = rr .1; r-q = rq .1; q-f = rf .1; f-s = rs .1; s-t = rs .2; inside = omega (arith, last-below bytes (length bytes - 1)) } in
       rw (are .0) k
