@@ -92,6 +92,22 @@ adjacent-all R trans d l p i (suc j) h k =
     le-down : {a b : ℕ} → a < suc b → a ≤ b
     le-down h = omega arith
 
+-- one entry more at the end
+pub adjacent-more : {A : Type 0} (R : A → A → Type 0) (d : A) (l : List A) (a : A) → Adjacent R l → (0 < length l → R (getD l (length l - 1) d) a) → Adjacent R (l ++ (a ∷ []))
+unfolding Adjacent
+adjacent-more R d [] a p f = tt
+adjacent-more R d (b ∷ []) a p f = (f (omega arith), tt)
+adjacent-more R d (b ∷ e ∷ l) a p f =
+    let k : length (b ∷ e ∷ l) - 1 ≡ suc (length (e ∷ l) - 1) = omega arith in
+    (p .0, adjacent-more R d (e ∷ l) a (p .1) (λ h. rw k at (f (omega arith))))
+
+-- of entries made from those of another list, of each of which P holds
+pub adjacent-mapped : {A B : Type 0} (P : A → Type 0) (R : A → A → Type 0) (S : B → B → Type 0) (f : A → B) (l : List A) → ((a b : A) → P a → P b → R a b → S (f a) (f b)) → Each P l → Adjacent R l → Adjacent S (map f l)
+unfolding Each Adjacent
+adjacent-mapped P R S f [] h e p = tt
+adjacent-mapped P R S f (a ∷ []) h e p = tt
+adjacent-mapped P R S f (a ∷ b ∷ l) h e p = (h a b (e .0) (e .1 .0) (p .0), adjacent-mapped P R S f (b ∷ l) h (e .1) (p .1))
+
 -- ---- what is kept of a list that grows at the end
 keep-one : {A : Type 0} (b : Bool) (a : A) (l m : List A) → cond b (a ∷ (l ++ m)) (l ++ m) ≡ cond b (a ∷ l) l ++ m
 keep-one true a l m = refl
@@ -300,6 +316,20 @@ module _ {A : Type 0} (f : ℕ → A) (n : ℕ) where
   listed-adjacent R trans p i j h k =
       rw (at-number i (omega arith), at-number j k) at
       (adjacent-all R trans (f 0) (listed f 0 n) p i j h (rw (listed-length f 0 n) k))
+
+-- what a function makes of a list, where another gives the same by place
+pub map-by-place : {A B : Type 0} (g : A → B) (f : ℕ → B) (d : A) (lo : ℕ) (l : List A) → ((i : ℕ) → i < length l → f (lo + i) ≡ g (getD l i d)) → map g l ≡ listed f lo (length l)
+unfolding listed
+map-by-place g f d lo [] h = refl
+map-by-place g f d lo (a ∷ l) h =
+    ap₂ _∷_ (sym (ap f (zero-right lo) ∙ h zero (omega arith))) (map-by-place g f d (suc lo) l (λ i k. ap f (suc-left lo i) ∙ h (suc i) (omega arith)))
+    ∙ sym (listed-first f lo (length l))
+  where
+    zero-right : (lo : ℕ) → lo ≡ lo + 0
+    zero-right lo = omega arith
+
+    suc-left : (lo i : ℕ) → suc lo + i ≡ lo + suc i
+    suc-left lo i = omega arith
 
 -- ---- whether some entry passes
 pub some-append : {A : Type 0} (test : A → Bool) (l m : List A) → some-of test (l ++ m) ≡ (some-of test l || some-of test m)
