@@ -1,16 +1,16 @@
 -- Method 2: the peak stays the same from edge to edge, so a sum of peaks is a sum of products; how large such sums can be; and how a sum goes on.
 use mathlib.Core.Path.{_≡_, refl, sym, ap, ap₂, _∙_}
-use mathlib.Core.Logic.{_⊎_, inl, inr, ⊎-elim}
-use mathlib.Core.Bool.{Bool, true, false, cond, _&&_}
+use mathlib.Core.Logic.{⊎-elim}
+use mathlib.Core.Bool.{Bool, true, false, cond}
 use mathlib.Core.List.{List, [], _∷_, _++_, map, map-append}
-use Prim.Native.Nat.{ℕ, zero, suc, _+_, _-_, _*_, _≤_, _<_, min}
+use Prim.Native.Nat.{ℕ, zero, suc, _+_, _-_, _≤_, _<_, min}
 use native.Mathlib.Nat.{add-suc, add-zero, add-assoc, eq-or-lt-of-le}
 use native.Mathlib.Omega.{arith}
 use borrow.Author.Tests.{le-leb, lt-leb}
 use lib.IntN.{ℤ, pos, natAbs, _+ℤ_, _*ℤ_, *ℤ-zero, *ℤ-comm, sucℤ-*ℤ, +ℤ-idr, +ℤ-assoc}
 use lib.ListN.{getD}
 use Rattle.gaze.specs.declared.Segment.{Segment}
-use Rattle.gaze.specs.Lists.{Each, keep, listed}
+use Rattle.gaze.specs.Lists.{keep, listed}
 use Rattle.gaze.specs.SegmentScore.{enters, holds, largest, sum-over}
 use Rattle.gaze.proofs.ListLaws.{keep-append, listed-more, listed-none, each-kept, each-mapped, each-listed}
 use Rattle.gaze.proofs.Bounds.{sum-over-size, largest-size}

@@ -1,21 +1,19 @@
 -- The column of rates: it fits the machine, and the peak of rows with their rates is the largest rate of the rows with their scores.
 use mathlib.Core.Path.{_≡_, refl, sym, ap, ap₂, _∙_}
 use mathlib.Core.Logic.{⊎-elim}
-use mathlib.Core.Bool.{cond}
 use mathlib.Core.List.{List, map, map-map}
-use Prim.Native.Nat.{ℕ, zero, suc, _+_, _-_, _*_, _≤_, _<_}
+use Prim.Native.Nat.{ℕ, zero, suc, _+_, _-_, _≤_, _<_}
 use native.Mathlib.Nat.{eq-or-lt-of-le}
 use native.Mathlib.Omega.{arith}
 use borrow.Author.Tests.{eq-eqb, ne-eqb}
 use lib.IntN.{ℤ, pos, natAbs, _+ℤ_, _*ℤ_}
 use lib.ListN.{length, getD, set}
 use lib.Seq.{getD-set-same, getD-set-other}
-use Rattle.whole.specs.Whole.{floor-of}
 use Rattle.whole.proofs.Size.{abs-mul-le}
 use Rattle.whole.proofs.Quotients.{abs-floor}
 use Rattle.gaze.specs.declared.Segment.{Segment}
-use Rattle.gaze.specs.Lists.{keep, listed}
-use Rattle.gaze.specs.SegmentScore.{enters, largest, rate, rate-at, largest-rate, sum-over, largest-share, summed-rates}
+use Rattle.gaze.specs.Lists.{keep}
+use Rattle.gaze.specs.SegmentScore.{enters, largest, rate, largest-rate, sum-over, largest-share, summed-rates}
 use Rattle.gaze.proofs.ListLaws.{keep-map, listed-same, map-listed}
 use Rattle.rows.specs.Rows.{stretch, row, rows, Sound, scored, Rated}
 use Rattle.rows.specs.Peaks.{rated, held, peak}

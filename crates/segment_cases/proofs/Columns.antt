@@ -8,7 +8,7 @@ use lib.IntN.{ℤ, pos, negsuc, natAbs}
 use Rattle.gaze.specs.Lists.{Each, listed}
 use Rattle.gaze.specs.Columns.{segment-at}
 use Rattle.gaze.proofs.ListLaws.{each-of-listed}
-use Rattle.rows.specs.Rows.{row, Good, Sound}
+use Rattle.rows.specs.Rows.{row, Good}
 use Rattle.segment.specs.Region.{Region}
 use Rattle.segment_cases.specs.Cases.{cases}
 

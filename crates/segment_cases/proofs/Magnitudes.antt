@@ -1,7 +1,7 @@
 -- The magnitude of a 64-bit number: of a negative one z, -1 - z is not negative and one less than the magnitude, so that nothing overflows.
-use mathlib.Core.Path.{_≡_, refl, sym, _∙_}
+use mathlib.Core.Path.{_≡_, sym, _∙_}
 use mathlib.Core.Bool.{true, false, true≢false}
-use Prim.Native.Nat.{ℕ, _+_, zero-le}
+use Prim.Native.Nat.{_+_, zero-le}
 use native.Mathlib.Omega.{arith}
 use borrow.Author.Tests.{le-leb}
 use lib.Dec.{T}

@@ -1,17 +1,17 @@
 -- Rows that start behind a region enter its maximum with 0, so that they need not be looked at one by one.
-use mathlib.Core.Path.{_≡_, refl, sym, ap, ap₂, _∙_}
+use mathlib.Core.Path.{_≡_, refl, sym, ap, _∙_}
 use mathlib.Core.Bool.{Bool, true, false, cond}
 use mathlib.Core.List.{List, [], _∷_, _++_, map, map-append, foldl, foldl-append}
-use Prim.Native.Nat.{ℕ, suc, _+_, _-_, _≤_, _<_}
+use Prim.Native.Nat.{ℕ, suc, _+_, _-_, _<_}
 use native.Mathlib.Omega.{arith}
 use lib.IntN.{ℤ, pos}
-use lib.ListN.{length, getD}
+use lib.ListN.{length}
 use lib.Signed.{leZ}
 use Rattle.whole.specs.Whole.{larger-of}
 use Rattle.gaze.specs.declared.Segment.{Segment}
 use Rattle.gaze.specs.Lists.{Each, keep, listed}
 use Rattle.gaze.specs.SegmentScore.{enters, share, largest, largest-share}
-use Rattle.gaze.proofs.ListLaws.{each-mapped, each-listed, keep-append, keep-all, listed-length, listed-joined, listed-none}
+use Rattle.gaze.proofs.ListLaws.{each-mapped, each-listed, keep-all, listed-length, listed-joined, listed-none}
 use Rattle.rows.specs.Rows.{row, rows}
 use Rattle.rows.proofs.Shares.{share-before}
 use Rattle.slots.specs.Search.{FirstFrom}

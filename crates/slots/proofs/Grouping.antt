@@ -2,8 +2,8 @@
 use mathlib.Core.Path.{_≡_, refl, sym, ap, _∙_}
 use mathlib.Core.Logic.{⊎-elim}
 use mathlib.Core.Bool.{Bool, true, false, not, _&&_}
-use mathlib.Core.List.{List, []}
-use Prim.Native.Nat.{ℕ, suc, _+_, _-_, _*_, _/_, _≤_, _<_}
+use mathlib.Core.List.{List}
+use Prim.Native.Nat.{ℕ, suc, _+_, _-_, _/_, _≤_, _<_}
 use native.Mathlib.Nat.{eq-or-lt-of-le}
 use native.Mathlib.Numerals.{add-one}
 use native.Mathlib.Omega.{arith}
@@ -17,9 +17,9 @@ use Rattle.gaze.specs.SegmentScore.{meets-match}
 use Rattle.gaze.proofs.ListLaws.{keep-no, keep-length, each-listed, listed-none, listed-same, listed-length}
 use Rattle.gaze.proofs.Tests.{at-or-below}
 use Rattle.rows.specs.Rows.{row, rows, Good, Sound, Rated}
-use Rattle.segment.specs.Choice.{Room, Kept}
+use Rattle.segment.specs.Choice.{Kept}
 use Rattle.segment.proofs.Choosing.{row-same}
-use Rattle.slots.specs.Slots.{in-slot, slot-rows, Grouped, slots-of, Slots, ends-at}
+use Rattle.slots.specs.Slots.{in-slot, slot-rows, Grouped, Slots, ends-at}
 use Rattle.slots.proofs.Counting.{counted}
 
 -- ---- parts of columns

@@ -1,5 +1,5 @@
 -- The slots that a type and a phase can ask for: of class 3 for phase 3, of the classes 0 to 2 otherwise. A mark that is there stays.
-use mathlib.Core.Path.{_≡_, refl, sym, ap, _∙_}
+use mathlib.Core.Path.{_≡_, _∙_}
 use mathlib.Core.Logic.{_⊎_, inl, inr, ⊎-elim}
 use mathlib.Core.Bool.{Bool, true, false}
 use mathlib.Core.List.{List}
@@ -9,7 +9,7 @@ use borrow.Author.Tests.{eq-eqb, ne-eqb, eqb-true, eqb-false}
 use lib.Dec.{eqb}
 use lib.ListN.{length, getD, set, length-set}
 use lib.Seq.{getD-set-same, getD-set-other}
-use Rattle.slots.specs.Slots.{slot-of, Marked}
+use Rattle.slots.specs.Slots.{Marked}
 use Rattle.slots.proofs.Classes.{outcome}
 
 -- a mark that is set, and one that was there

@@ -1,7 +1,7 @@
 -- The rows of a slot stand in the order of their starts, as the segments of a sheet do; so a binary search finds those that start at a position, and they
 -- stand together.
-use mathlib.Core.Path.{_≡_, refl, sym, ap, ap₂, _∙_}
-use mathlib.Core.Logic.{_⊎_, inl, inr}
+use mathlib.Core.Path.{_≡_, sym, ap, ap₂, _∙_}
+use mathlib.Core.Logic.{inl, inr}
 use mathlib.Core.Bool.{Bool, true, false, cond}
 use mathlib.Core.List.{List, [], _∷_, _++_, append-nil}
 use Prim.Native.Nat.{ℕ, zero, suc, _+_, _-_, _/_, _≤_, _<_}
@@ -10,12 +10,12 @@ use borrow.Author.Tests.{eq-eqb, ne-eqb}
 use lib.IntN.{ℤ}
 use lib.ListN.{length, getD}
 use Rattle.gaze.specs.declared.Segment.{Segment}
-use Rattle.gaze.specs.Lists.{Each, Adjacent, keep, listed}
+use Rattle.gaze.specs.Lists.{Each, keep, listed}
 use Rattle.gaze.specs.Ranges.{Before, InOrder, segment-keys}
 use Rattle.gaze.proofs.ListLaws.{each-at, each-map, each-kept, each-listed, keep-append, keep-each, keep-no, listed-at, listed-length, listed-joined}
 use Rattle.gaze.proofs.OrderLaws.{order-rest, order-head}
 use Rattle.rows.specs.Rows.{row, rows}
-use Rattle.slots.specs.Slots.{Grouped, slots-of, Slots, starts-at, ending}
+use Rattle.slots.specs.Slots.{Grouped, Slots, starts-at, ending}
 use Rattle.slots.specs.Search.{Rising, FirstFrom, Starting}
 
 -- each segment starts no later than those after it

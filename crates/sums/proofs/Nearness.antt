@@ -1,6 +1,6 @@
 -- Among many segments that give 0 one is as good as all: once 0 has entered a maximum, another 0 does not change it. So the rows off a window can be left
 -- out but for the first, at every base of the window at once.
-use mathlib.Core.Path.{_≡_, refl, sym, ap, _∙_}
+use mathlib.Core.Path.{_≡_, refl, sym, _∙_}
 use mathlib.Core.Logic.{_⊎_, inl, inr}
 use mathlib.Core.Bool.{Bool, true, false, not, cond, _&&_, _||_, true≢false}
 use mathlib.Core.List.{List, [], _∷_, _++_}
@@ -13,13 +13,12 @@ use lib.ListN.{length, getD, set, length-set}
 use lib.Signed.{leZ}
 use Rattle.whole.specs.Whole.{larger-of}
 use Rattle.gaze.specs.declared.Segment.{Segment}
-use Rattle.gaze.specs.Lists.{listed}
 use Rattle.gaze.specs.SegmentScore.{enters}
 use Rattle.gaze.proofs.ListLaws.{listed-none, listed-more}
 use Rattle.gaze.proofs.Tests.{at-or-below}
-use Rattle.rows.specs.Rows.{stretch, row, rows, Good, Sound}
+use Rattle.rows.specs.Rows.{stretch, row, rows, Good}
 use Rattle.rows.specs.Maximum.{Looked, Beaten}
-use Rattle.rows.specs.Peaks.{held, peak}
+use Rattle.rows.specs.Peaks.{held}
 use Rattle.rows.proofs.Picking.{Picked, pick-none, pick-step, looked-kept}
 use Rattle.rows.proofs.Shares.{larger-kept, larger-above, larger-of-zero}
 use Rattle.rows.proofs.Plateaus.{held-before, held-behind}

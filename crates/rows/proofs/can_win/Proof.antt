@@ -1,5 +1,5 @@
 -- `can_win` is right because it says no only where neither 0 nor the score is above the largest.
-use mathlib.Core.Path.{_≡_, sym, _∙_}
+use mathlib.Core.Path.{sym, _∙_}
 use mathlib.Core.Bool.{true≢false}
 use borrow.Author.Tests.{not-false}
 use lib.IntN.{pos}

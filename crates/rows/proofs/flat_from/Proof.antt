@@ -1,6 +1,5 @@
 -- `flat_from` is right because the peak at `x` can change only at an edge of one of the rows. The loop's invariant: the maximum is the peak at `x` of the
 -- rows up to `i`, and none of these has an edge between `x` and `next`.
-use mathlib.Core.Path.{_≡_}
 use Prim.Native.Nat.{_-_}
 use native.Mathlib.Omega.{arith}
 use lib.ListN.{getD}

@@ -1,5 +1,4 @@
 -- `take_rate` is right because a segment gives its rate at the bases that it holds, and 0 at the others.
-use mathlib.Core.Path.{_≡_, sym, _∙_}
 use native.Mathlib.Omega.{arith}
 use mir.Facts.{toZ-ofZ}
 use Rattle.rows.proofs.Picking.{looked-taken}

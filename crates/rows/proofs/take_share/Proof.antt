@@ -1,5 +1,5 @@
 -- `take_share` is right because a segment off the region enters with 0, and one whose share cannot win leaves the maximum as it is.
-use mathlib.Core.Path.{_≡_, sym, _∙_}
+use mathlib.Core.Path.{_≡_, _∙_}
 use native.Mathlib.Omega.{arith}
 use mir.Facts.{toZ-ofZ}
 use Rattle.whole.proofs.Bits.{back}

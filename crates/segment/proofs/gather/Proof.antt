@@ -1,7 +1,7 @@
 -- `gather` is right because each turn writes the segment at `i` where it fits. The loop's invariant: of the segments before `i` those that fit stand in
 -- the rows from `at` to `o`.
 use mathlib.Core.Path.{_≡_}
-use Prim.Native.Nat.{ℕ, _≤_, _<_, _-_}
+use Prim.Native.Nat.{_≤_, _<_, _-_}
 use native.Mathlib.Omega.{arith}
 use lib.ListN.{getD}
 use lib.IntN.{pos}

@@ -1,11 +1,9 @@
 -- `group` is right because each turn writes one slot after those before it. The loop's invariant: the slots below `j` stand in the columns up to `o`, which
 -- is how many rows they have.
-use mathlib.Core.Path.{_≡_, refl, sym, ap, _∙_}
-use mathlib.Core.List.{List}
-use Prim.Native.Nat.{ℕ, _+_, _-_, _*_, _/_, _%_, _≤_, _<_}
+use mathlib.Core.Path.{_≡_, ap, _∙_}
+use Prim.Native.Nat.{ℕ, _-_, _≤_, _<_}
 use native.Mathlib.Omega.{arith}
-use lib.ListN.{length, length-set}
-use Rattle.gaze.specs.declared.Segment.{Segment}
+use lib.ListN.{length-set}
 use Rattle.gaze.specs.Lists.{keep, listed}
 use Rattle.gaze.specs.Columns.{segment-at}
 use Rattle.gaze.proofs.ListLaws.{listed-length}

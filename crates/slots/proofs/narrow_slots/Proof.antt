@@ -1,9 +1,9 @@
 -- `narrow_slots` is right because each turn writes what is left of one slot after those before it. The loop's invariant: what is left of the slots below `j`
 -- stands in the columns up to `o`, which is no further than these slots went.
 use mathlib.Core.Path.{_≡_, refl, _∙_}
-use Prim.Native.Nat.{ℕ, _+_, _-_, _/_, _≤_, _<_}
+use Prim.Native.Nat.{_+_, _-_, _/_, _≤_, _<_}
 use native.Mathlib.Omega.{arith}
-use lib.ListN.{length, getD, length-set}
+use lib.ListN.{getD, length-set}
 use Rattle.slots.specs.Slots.{ending}
 use Rattle.slots.proofs.Grouping.{Grouping, grouping-none, grouping-more, sound-within}
 use borrow.Author.Needs.{needs}

@@ -1,5 +1,4 @@
 -- `starting_at` is right because rows that start at `s` stand from the first that does not start before `s` to the first that starts behind it.
-use native.Mathlib.Omega.{arith}
 use Rattle.slots.proofs.StartOrder.{starting, rising-part}
 use borrow.Author.Needs.{needs}
 use Rattle.slots.proofs.starting_at.Statement.{statement}

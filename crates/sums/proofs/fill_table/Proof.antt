@@ -1,6 +1,6 @@
 -- `fill_table` is right because each turn fills the part of one slot, and leaves the parts before it. The loop's invariant: the used slots below `j` are filled.
 use mathlib.Core.Path.{_≡_, refl, _∙_}
-use Prim.Native.Nat.{ℕ, _+_, _-_, _≤_, _<_}
+use Prim.Native.Nat.{_+_, _-_, _≤_, _<_}
 use native.Mathlib.Omega.{arith}
 use lib.ListN.{length, getD}
 use Rattle.slots.proofs.Grouping.{sound-within}
