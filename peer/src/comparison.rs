@@ -26,6 +26,7 @@ pub struct Tally {
     pub region_score: [u64; 12],
     /// Lent chains whose first bad step was the first, one in the middle, the last.
     pub bad_steps: [u64; 3],
+    /// Sheets of full size, some of them damaged.
     pub full_size: u64,
 }
 
@@ -114,7 +115,13 @@ fn make_case(random: &mut Random, case: u64, tally: &mut Tally) -> Case {
     }
     if case % FULL_EVERY == FULL_EVERY - 1 {
         tally.full_size += 1;
-        return case_of(Draft::of(&valid::full(random)).text(), Vec::new());
+        let sheet = valid::full(random);
+        let text = if random.chance(25) {
+            damaged(random, &sheet).text
+        } else {
+            Draft::of(&sheet).text()
+        };
+        return case_of(text, Vec::new());
     }
     match random.below(20) {
         0..=8 => {

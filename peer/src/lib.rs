@@ -20,6 +20,7 @@ pub use sheet::{Segment, Sheet};
 
 use chains::Best;
 use reply::{NO_VALID_CHAIN, SHORT_BUFFER};
+use sheet::MOST_CANDIDATES;
 
 /// A way to find the best chain of a sheet.
 pub type Way = fn(&Sheet) -> Option<Best>;
@@ -58,8 +59,7 @@ pub fn score_chain(text: &[u8], chain: &[u32]) -> Reply {
 
 /// What the program `assemble` prints for a sheet.
 pub fn report(text: &[u8]) -> String {
-    let room = sheet::read(text).map_or(0, |sheet| sheet.last_candidate() + 1);
-    let mut buffer = vec![0; room];
+    let mut buffer = vec![0; MOST_CANDIDATES];
     let reply = assemble(text, &mut buffer);
     let mut lines = format!("{reply}\n");
     if let Ok(sheet) = sheet::read(text) {

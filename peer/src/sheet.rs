@@ -13,6 +13,7 @@ pub const LARGEST_SCORE: i64 = 10_000_000;
 /// The groups in the order in which they stand.
 pub const LETTERS: [u8; 6] = *b"LPRQFS";
 pub const MOST_LINES: [usize; 6] = [1, 512, 256, 256, 1_024, 1_024];
+pub const MOST_CANDIDATES: usize = MOST_LINES[4] + 2;
 pub const MOST_SEGMENTS: usize = MOST_LINES[5];
 
 pub const BEGIN_KIND: u32 = 0;
@@ -211,18 +212,21 @@ fn read_fields<const COUNT: usize>(letter: u8, text: &[u8]) -> Option<([i64; COU
 fn read_number(text: &[u8]) -> Option<(i64, usize)> {
     let negative = text[0] == b'-';
     let sign = usize::from(negative);
-    let mut value = 0;
-    let mut at = sign;
-    while text[at].is_ascii_digit() && at - sign < 9 {
-        value = value * 10 + i64::from(text[at] - b'0');
-        at += 1;
+    let mut value: i64 = 0;
+    let mut digits = 0;
+    for byte in &text[sign..] {
+        let digit = byte.wrapping_sub(b'0');
+        if digit > 9 {
+            break;
+        }
+        value = value.wrapping_mul(10).wrapping_add(i64::from(digit));
+        digits += 1;
     }
-    let digits = at - sign;
-    let leading_zero = digits > 0 && text[sign] == b'0' && (digits > 1 || negative);
-    if digits == 0 || leading_zero || text[at].is_ascii_digit() {
+    let leading_zero = text[sign] == b'0' && (digits > 1 || negative);
+    if digits == 0 || digits > 9 || leading_zero {
         return None;
     }
-    Some((if negative { -value } else { value }, at))
+    Some((if negative { -value } else { value }, sign + digits))
 }
 
 #[derive(Default)]

@@ -6,13 +6,17 @@ const SEED: u64 = 20_260_416;
 const CASES: u64 = 20_000;
 const STACK: usize = 16 << 20;
 
-fn reached(name: &str, counts: &[u64; 12], least: [u64; 12]) {
-    for number in 0..12 {
-        assert!(
-            counts[number] >= least[number],
-            "{name} replied {number} only {} times",
-            counts[number]
-        );
+/// How often each number from 0 to 11 must be replied at the least.
+const ASSEMBLE: [u64; 12] = [4000, 300, 1000, 1000, 500, 300, 150, 250, 1000, 500, 0, 0];
+const SCORE_CHAIN: [u64; 12] = [2000, 300, 1000, 1000, 500, 300, 150, 250, 0, 0, 1000, 1000];
+#[cfg(feature = "records")]
+const REGION_SCORE: [u64; 12] = [5000, 0, 0, 0, 1000, 200, 0, 100, 0, 0, 0, 0];
+const BAD_STEPS: u64 = 300;
+const FULL_SIZE: u64 = 30;
+
+fn assert_reached(name: &str, counts: &[u64; 12], least: &[u64; 12]) {
+    for (number, (count, least)) in counts.iter().zip(least).enumerate() {
+        assert!(count >= least, "{name} replied {number} only {count} times");
     }
 }
 
@@ -23,51 +27,10 @@ fn library_agrees() {
         Err(mismatch) => panic!("seed {SEED}, {mismatch}"),
     };
     println!("{tally}");
-    let read = [300, 1000, 1000, 500, 300, 150, 250];
-    let [bad_size, bad_trailer, malformed, out_of_range, out_of_order, without_partner, beyond_most] =
-        read;
-    reached(
-        "assemble",
-        &tally.assemble,
-        [
-            4000,
-            bad_size,
-            bad_trailer,
-            malformed,
-            out_of_range,
-            out_of_order,
-            without_partner,
-            beyond_most,
-            1000,
-            500,
-            0,
-            0,
-        ],
-    );
-    reached(
-        "score_chain",
-        &tally.score_chain,
-        [
-            1000,
-            bad_size,
-            bad_trailer,
-            malformed,
-            out_of_range,
-            out_of_order,
-            without_partner,
-            beyond_most,
-            0,
-            0,
-            1000,
-            1000,
-        ],
-    );
-    assert!(tally.bad_steps.iter().all(|&count| count >= 300));
-    assert!(tally.full_size >= 30);
+    assert_reached("assemble", &tally.assemble, &ASSEMBLE);
+    assert_reached("score_chain", &tally.score_chain, &SCORE_CHAIN);
     #[cfg(feature = "records")]
-    reached(
-        "region_score",
-        &tally.region_score,
-        [5000, 0, 0, 0, 1000, 200, 0, 100, 0, 0, 0, 0],
-    );
+    assert_reached("region_score", &tally.region_score, &REGION_SCORE);
+    assert!(tally.bad_steps.iter().all(|&count| count >= BAD_STEPS));
+    assert!(tally.full_size >= FULL_SIZE);
 }

@@ -311,6 +311,14 @@ fn two_ways_agree_on_large_sheets() {
 }
 
 #[test]
+fn two_ways_agree_on_full_sheets() {
+    for seed in [102, 103, 110] {
+        let sheet = valid::full(&mut Random::new(seed));
+        assert_eq!(best_by_programme(&sheet), tuned::best(&sheet));
+    }
+}
+
+#[test]
 fn full_sheets_are_read() {
     let mut random = Random::new(3);
     let mut at_most = 0;

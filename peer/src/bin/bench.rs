@@ -1,6 +1,7 @@
 //! For each sheet of `../sheets`, or for those named, the time of the tuned programme and, with the
 //! feature `library`, that of the library and their ratio.
 
+use peer::sheet::MOST_CANDIDATES;
 use std::env;
 use std::fs;
 use std::io;
@@ -55,7 +56,7 @@ fn milliseconds(time: Duration) -> f64 {
 }
 
 fn peer_time(text: &[u8]) -> Duration {
-    let mut chain = vec![0; 1026];
+    let mut chain = vec![0; MOST_CANDIDATES];
     median(|| {
         std::hint::black_box(peer::assemble(text, &mut chain));
     })
@@ -68,7 +69,7 @@ fn measure_all(sheets: &[(String, Vec<u8>)]) {
         "sheet", "library ms", "peer ms", "ratio"
     );
     for (name, text) in sheets {
-        let mut chain = vec![0; 1026];
+        let mut chain = vec![0; MOST_CANDIDATES];
         let library = milliseconds(median(|| {
             std::hint::black_box(peer::library::assemble(text, &mut chain));
         }));

@@ -20,9 +20,20 @@ struct Piece {
 }
 
 impl Piece {
-    fn level(until: i32, score: f64) -> Piece {
+    fn rising(until: i32, rate: i64, inverse: f64) -> Piece {
         Piece {
             until,
+            closed: f64::NEG_INFINITY,
+            sum: 0.0,
+            anchor: 0.0,
+            rate: rate as f64,
+            inverse,
+        }
+    }
+
+    fn level(score: f64) -> Piece {
+        Piece {
+            until: i32::MAX,
             closed: score,
             sum: score,
             anchor: 0.0,
@@ -81,14 +92,8 @@ fn pieces_by_share(held: &[Held], pieces: &mut Vec<Piece>) {
         if segment.pays_more_than(&open) {
             open = *segment;
         }
-        pieces.push(Piece {
-            until: segment.length as i32,
-            closed: f64::NEG_INFINITY,
-            sum: 0.0,
-            anchor: 0.0,
-            rate: open.score as f64,
-            inverse: 1.0 / open.length as f64,
-        });
+        let inverse = 1.0 / open.length as f64;
+        pieces.push(Piece::rising(segment.length as i32, open.score, inverse));
     }
     pieces.reverse();
     let mut closed = f64::NEG_INFINITY;
@@ -96,31 +101,17 @@ fn pieces_by_share(held: &[Held], pieces: &mut Vec<Piece>) {
         piece.closed = closed;
         closed = larger(closed, segment.score as f64);
     }
-    pieces.push(Piece::level(i32::MAX, closed));
+    pieces.push(Piece::level(closed));
 }
 
 fn pieces_by_rate(held: &[Held], pieces: &mut Vec<Piece>) {
     let mut best = i64::MIN;
     for segment in held.iter().rev() {
         best = best.max(segment.rate());
-        pieces.push(Piece {
-            until: segment.length as i32,
-            closed: f64::NEG_INFINITY,
-            sum: 0.0,
-            anchor: 0.0,
-            rate: best as f64,
-            inverse: 0.001,
-        });
+        pieces.push(Piece::rising(segment.length as i32, best, 0.001));
     }
-    pieces.push(Piece {
-        until: i32::MAX,
-        closed: f64::NEG_INFINITY,
-        sum: 0.0,
-        anchor: 0.0,
-        rate: 0.0,
-        inverse: 0.001,
-    });
-    pieces[..held.len()].reverse();
+    pieces.reverse();
+    pieces.push(Piece::rising(i32::MAX, 0, 0.001));
     for number in 1..pieces.len() {
         let before = pieces[number - 1];
         let piece = &mut pieces[number];
@@ -204,7 +195,7 @@ impl Starters {
         }
     }
 
-    /// Adds the scores of the slots from `low` on to the row.
+    /// Adds the scores of the sources in the slots from `low` on, at these positions.
     pub fn add(&self, row: &mut [f64], low: usize, positions: &[i32], target: i32) {
         let high = low + row.len();
         let columns = self.closed[low..high]
@@ -214,7 +205,7 @@ impl Starters {
             .zip(&self.rate[low..high])
             .zip(&self.inverse[low..high]);
         for ((total, &position), ((((&closed, &sum), &anchor), &rate), &inverse)) in
-            row.iter_mut().zip(&positions[low..high]).zip(columns)
+            row.iter_mut().zip(positions).zip(columns)
         {
             let piece = Piece {
                 until: i32::MAX,

@@ -5,26 +5,27 @@
 //! with a margin that is wider than their error and narrower than the gap to the next quotient.
 
 /// Adding this number leaves no room for a fraction, so it rounds to the nearest whole number.
-const ROUNDER: f64 = 6_755_399_441_055_744.0;
+pub const ROUNDER: f64 = 6_755_399_441_055_744.0;
 
 /// Half of the least gap between quotients whose divisor is at most 4,000,000.
 const MARGIN: f64 = 1.0 / 8_388_608.0;
 
-#[inline(always)]
-fn nearest(value: f64) -> f64 {
-    value + ROUNDER - ROUNDER
-}
-
-/// The floor of a quotient of at most 100,000,000 whose divisor is at most 4,000,000.
+/// The floor of a quotient of at most 200,000,000 whose divisor is at most 4,000,000.
 #[inline(always)]
 pub fn floor(quotient: f64) -> f64 {
-    nearest(quotient - (0.5 - MARGIN))
+    floor_below(quotient, ROUNDER)
+}
+
+/// That floor and what lies between the depth and the rounder, in one.
+#[inline(always)]
+pub fn floor_below(quotient: f64, depth: f64) -> f64 {
+    quotient - (0.5 - MARGIN) + ROUNDER - depth
 }
 
 /// The floor of a thousandth of a whole number.
 #[inline(always)]
 pub fn floor_of_thousandth(value: f64) -> f64 {
-    nearest((value - 499.5) * 0.001)
+    (value - 499.5) * 0.001 + ROUNDER - ROUNDER
 }
 
 #[inline(always)]
@@ -45,14 +46,14 @@ mod tests {
     fn floors_next_to_whole_quotients() {
         for divisor in [1, 2, 3, 7, 999_983, 3_999_999, 4_000_000_i64] {
             for quotient in [
-                -20_000_000,
+                -199_999_999,
                 -10_000_000,
                 -3,
                 -1,
                 0,
                 1,
                 9_999_999,
-                19_999_999_i64,
+                199_999_999_i64,
             ] {
                 for near in [-2, -1, 0, 1, 2] {
                     let number = quotient * divisor + near;
