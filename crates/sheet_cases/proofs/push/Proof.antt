@@ -1,0 +1,53 @@
+-- `push` is safe because what it lends comes back as long as it was. The invariant says that.
+use mathlib.Core.Path.{_≡_, refl}
+use Prim.Native.Nat.{_-_}
+use native.Mathlib.Omega.{arith}
+use lib.ListN.{length}
+use borrow.Author.Needs.{needs}
+use Rattle.sheet_cases.proofs.push.Statement.{statement}
+use Rattle.sheet_cases.proofs.push.Tie as tie
+
+abbrev Inv-loop : tie.InvT-loop
+Inv-loop out₀ at text end₀ i₀ out end i = length out ≡ length out₀
+
+abbrev μ-loop : tie.MeasureT-loop
+μ-loop out₀ at text end₀ i₀ out end i = length text - i
+
+loop-holds : tie.Need-loop-holds Inv-loop μ-loop
+loop-holds c = search needs
+
+shared-slice-read-push-byte : tie.Need-shared-slice-read-push-byte Inv-loop μ-loop
+shared-slice-read-push-byte c = search needs
+
+push-byte-requires : tie.Need-push-byte-requires Inv-loop μ-loop
+push-byte-requires c κs = search needs
+
+add-i : tie.Need-add-i Inv-loop μ-loop
+add-i c = search needs
+
+loop-less : tie.Need-loop-less Inv-loop μ-loop
+loop-less c = search needs
+
+loop-again : tie.Need-loop-again Inv-loop μ-loop
+loop-again c = search needs
+
+same-length : tie.Need-same-length Inv-loop μ-loop
+same-length c = search needs
+
+returns : tie.Need-returns Inv-loop μ-loop
+returns c = search needs
+
+pub push-spec : {M : Type 1} → statement M
+push-spec =
+    tie.close
+    (tie.spec
+    Inv-loop
+    μ-loop
+    loop-holds
+    shared-slice-read-push-byte
+    push-byte-requires
+    add-i
+    loop-less
+    loop-again
+    same-length
+    returns)
