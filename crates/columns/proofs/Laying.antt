@@ -6,8 +6,8 @@ use native.Mathlib.Nat.{mul-suc, mul-zero, mul-le-mul-left, add-zero}
 use native.Mathlib.Numerals.{add-one}
 use native.Mathlib.Omega.{arith}
 use lib.IntN.{ℤ, pos}
-use lib.ListN.{length, getD, take, drop, set, length-append, length-take, List·getD-append, length-map}
-use lib.Seq.{sets, sets-eq, length-sets, length-take-le, take-suc, getD-append-add, getD-take, getD-set-other}
+use lib.ListN.{length, getD, take, drop, set, length-append, List·getD-append, length-map}
+use lib.Seq.{sets, sets-eq, length-take-le, take-suc, getD-append-add, getD-take, getD-set-other}
 use Rattle.gaze.specs.Lists.{Each, listed}
 use Rattle.gaze.proofs.ListLaws.{listed-length, listed-at, each-at}
 use Rattle.kinds.specs.Kinds.{field}

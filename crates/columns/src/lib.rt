@@ -2,12 +2,12 @@
 
 ghost use mathlib.Core.Path.{_≡_};
 ghost use mathlib.Core.List.{map};
-ghost use Prim.Native.Nat.{_+_, _*_, _≤_, _<_};
+ghost use Prim.Native.Nat.{_+_, _≤_, _<_};
 ghost use lib.ListN.{length, take};
 ghost use lib.Seq.{sets};
-ghost use Rattle.gaze.specs.Lists.{Each, listed};
+ghost use Rattle.gaze.specs.Lists.{listed};
 ghost use Rattle.kinds.specs.Kinds.{field};
-ghost use Rattle.columns.specs.Numbers.{number, numbers, Small, LaysRow, Lays};
+ghost use Rattle.columns.specs.Numbers.{number, numbers, LaysRow, Lays};
 
 // The numbers of one row from place `first` on.
 fn lay_row(row: [i64; 10], first: usize, width: usize, at: usize, out: &mut [u32])

@@ -1,16 +1,15 @@
 -- Laws of `fault`: what is wrong by the first check that is not passed, and what a row with nothing wrong has passed.
-use mathlib.Core.Path.{_≡_, refl, sym, ap, _∙_}
+use mathlib.Core.Path.{_≡_, refl, sym}
 use mathlib.Core.Bool.{Bool, true, false, not, cond}
 use mathlib.Core.List.{List, []}
 use Prim.Native.Nat.{ℕ, _-_, _<_, _≤_}
 use native.Mathlib.Omega.{arith}
-use borrow.Author.Tests.{le-leb, lt-leb, eq-eqb, ne-eqb, leb-false, eqb-true, eqb-false}
+use borrow.Author.Tests.{le-leb, lt-leb, eq-eqb, ne-eqb, leb-false, eqb-true}
 use lib.Dec.{leb, eqb}
 use lib.IntN.{ℤ}
 use lib.ListN.{length, getD, take}
 use lib.Seq.{length-take-le, getD-take}
 use Rattle.kinds.specs.declared.Letter.{Letter}
-use Rattle.kinds.specs.declared.Order.{Order}
 use Rattle.kinds.specs.Kinds.{most-of, in-range}
 use Rattle.kinds.specs.Order.{keys-of, order, disorder}
 use Rattle.group.specs.Group.{fault}

@@ -15,7 +15,6 @@ use Rattle.gaze.proofs.ListLaws.{each-append, adjacent-more}
 use Rattle.kinds.specs.declared.Letter.{Letter}
 use Rattle.kinds.specs.Kinds.{most-of, field, in-range}
 use Rattle.kinds.specs.Order.{keys-of, order, disorder}
-use Rattle.group.specs.declared.Fault.{Fault}
 use Rattle.group.specs.Group.{line-of, row-at, fault, Outcome, read}
 use Rattle.group.proofs.Faults.{Passes, passes}
 

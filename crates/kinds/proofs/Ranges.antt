@@ -1,12 +1,12 @@
 -- What a range says of a number: that it is one, of no sign, between the bounds.
 use mathlib.Core.Path.{_≡_}
-use mathlib.Core.Bool.{true, false, _&&_}
+use mathlib.Core.Bool.{true, false}
 use Prim.Native.Nat.{ℕ, _≤_}
 use native.Mathlib.Omega.{arith}
 use borrow.Author.Tests.{leb-true}
 use lib.Dec.{T, leb}
 use lib.IntN.{ℤ, pos, negsuc, natAbs}
-use lib.Signed.{nonNeg, leZ}
+use lib.Signed.{nonNeg}
 use Rattle.text.proofs.Digits.{and-both}
 use Rattle.kinds.specs.Kinds.{between, thousandths}
 

@@ -1,25 +1,23 @@
 -- Laws of what is looked for among numbered entries, as a loop goes along them, and the same of lists.
-use mathlib.Core.Path.{_≡_, refl, sym, ap, ap₂, _∙_}
-use mathlib.Core.Bool.{Bool, true, false, cond, _&&_, _||_}
-use mathlib.Core.List.{List, [], _∷_, map}
-use Prim.Native.Nat.{ℕ, zero, suc, _+_, _-_, _*_, _^_, _<_, _≤_}
+use mathlib.Core.Path.{_≡_, refl, sym, ap, _∙_}
+use mathlib.Core.Bool.{Bool, true, false, cond, _||_}
+use mathlib.Core.List.{List, [], _∷_}
+use Prim.Native.Nat.{ℕ, zero, suc, _+_, _-_, _^_, _<_, _≤_}
 use native.Mathlib.Numerals.{add-one}
 use native.Mathlib.Omega.{arith}
 use lib.Dec.{eqb}
-use lib.IntN.{ℤ, pos, natAbs}
+use lib.IntN.{ℤ, natAbs}
 use lib.ListN.{length, getD}
 use lib.Signed.{mag}
 use mir.Facts.{fits-natAbs}
 use mir.Syntax.{w64}
 use mir.Val.{Fits, hbits}
 use Rattle.gaze.specs.declared.Point.{Point}
-use Rattle.gaze.specs.declared.Rule.{Rule}
 use Rattle.gaze.specs.Lists.{some-of, listed}
 use Rattle.gaze.specs.Columns.{Points, point-at}
 use Rattle.gaze.proofs.ListLaws.{listed-first}
-use Rattle.group.specs.declared.Fault.{Fault}
 use Rattle.group.specs.Group.{no-fault}
-use Rattle.links.specs.Links.{has-rule, has-points, missing, pointed}
+use Rattle.links.specs.Links.{has-points, missing, pointed}
 
 -- a place of no sign fits the wider number
 pub place-fits : (z : ℤ) → mag z < 2 ^ hbits w64 → Fits w64 (natAbs z)

@@ -1,22 +1,20 @@
 -- From the parts of a sheet to the whole: what the reader answers, by the checks in their order.
 use mathlib.Core.Path.{_≡_, refl, sym, ap, _∙_, subst}
-use mathlib.Core.Bool.{Bool, true, false, _&&_, cond}
+use mathlib.Core.Bool.{Bool, true, false, cond}
 use mathlib.Core.List.{List, [], _∷_, map}
 use Prim.Native.Nat.{ℕ, _+_, _*_, _≤_, _<_}
 use native.Mathlib.Omega.{arith}
-use borrow.Author.Tests.{le-leb, lt-leb, eq-eqb, ne-eqb, eqb-true}
-use lib.Dec.{T, eqb, leb}
+use borrow.Author.Tests.{le-leb, lt-leb, eq-eqb, eqb-true}
+use lib.Dec.{eqb}
 use lib.IntN.{ℤ, pos, natAbs}
 use lib.ListN.{length, getD, length-map, List·getD-map}
-use Rattle.gaze.specs.declared.Point.{Point}
-use Rattle.gaze.specs.declared.Rule.{Rule}
 use Rattle.gaze.specs.Lists.{listed}
 use Rattle.gaze.specs.Sheet.{Sheet, candidates, candidate}
-use Rattle.gaze.specs.Columns.{rule-at, qualifier-at, Candidates, Scores, Points, Rules, Qualifiers}
+use Rattle.gaze.specs.Columns.{rule-at, qualifier-at, Candidates, Scores}
 use Rattle.gaze.proofs.ListLaws.{listed-at}
 use Rattle.kinds.specs.declared.Letter.the-variants.{L, P, R, Q, F, S}
 use Rattle.group.specs.declared.Fault.{Fault}
-use Rattle.group.specs.Group.{Outcome, no-fault}
+use Rattle.group.specs.Group.{Outcome}
 use Rattle.trailer.specs.declared.Trailer.{Trailer}
 use Rattle.trailer.specs.Trailer.{trailer-of}
 use Rattle.trailer.proofs.Offsets.{Rising, rising}
@@ -33,7 +31,7 @@ use Rattle.tables.specs.Tables.{with-features, LengthRead, PointsRead, RulesRea
 use Rattle.links.specs.Links.{has-rule, has-points, missing, pointed, Placed}
 use Rattle.links.proofs.Sought.{missing-same, points-same}
 use Rattle.sheet.specs.declared.Columns.{Columns}
-use Rattle.sheet.specs.Reading.{Reading, refused, accepted, Groups, groups-of, or-else, first-fault, unruled, unpointed, fault-of, sheet-of, answered, of-groups, reading}
+use Rattle.sheet.specs.Reading.{refused, accepted, Groups, groups-of, first-fault, unruled, unpointed, fault-of, sheet-of, answered, of-groups, reading}
 use Rattle.sheet.specs.Held.{Holds, Answers, Parts}
 
 -- ---- the first fault

@@ -1,6 +1,6 @@
 -- Worked examples, one for each way to be refused, at the first and at the last place where it can arise, as small as can be; and sheet one, whole.
 use mathlib.Core.Path.{_≡_, refl}
-use mathlib.Core.List.{List, [], _∷_}
+use mathlib.Core.List.{[], _∷_}
 use Prim.Native.Nat.{ℕ}
 use Prim.Native.String.{String}
 use lib.IntN.{pos}
@@ -18,7 +18,7 @@ use Rattle.kinds.specs.Order.{order}
 use Rattle.group.specs.Group.{fault, read}
 use Rattle.trailer.specs.Trailer.{begins, last-begin, offset, trailer-of}
 use Rattle.links.specs.Links.{has-rule, has-points, missing}
-use Rattle.sheet.specs.Reading.{Reading, refused, accepted, first-fault, of-groups, reading}
+use Rattle.sheet.specs.Reading.{refused, accepted, first-fault, of-groups, reading}
 
 -- The text is refused with this number and place.
 abbrev Refused : String → ℕ → ℕ → Type 0

@@ -1,3 +1,4 @@
 pub mod Answering
 pub mod Ranged
+pub mod Outcomes
 mod Examples

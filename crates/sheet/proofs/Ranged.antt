@@ -1,25 +1,24 @@
 -- Every sheet that is accepted keeps to the ranges and the orders of the table, and every refusal has a number.
-use mathlib.Core.Path.{_≡_, refl, sym, ap, _∙_, subst}
+use mathlib.Core.Path.{_≡_, refl, sym, _∙_, subst}
 use mathlib.Core.Logic.{_⊎_, inl, inr}
 use mathlib.Core.Bool.{Bool, true, false, _&&_, cond}
 use mathlib.Core.List.{List, [], _∷_, map}
-use Prim.Native.Nat.{ℕ, zero, suc, _-_, _≤_, _<_}
+use Prim.Native.Nat.{ℕ, _-_, _≤_, _<_}
 use native.Mathlib.Omega.{arith}
-use borrow.Author.Tests.{ltb-true, ltb-false, leb-true, eqb-true, eqb-false}
+use borrow.Author.Tests.{ltb-true, ltb-false, eqb-true, eqb-false}
 use lib.Dec.{T, eqb, leb, ltb}
 use lib.IntN.{ℤ, pos, negsuc, natAbs}
-use lib.ListN.{length, getD, take, drop, length-map, length-drop}
+use lib.ListN.{length, getD, drop, length-map}
 use lib.Seq.{length-take-le}
-use lib.Signed.{nonNeg, ltZ}
-use Rattle.text.specs.Lines.{Line, lines}
+use lib.Signed.{nonNeg}
+use Rattle.text.specs.Lines.{lines}
 use Rattle.text.specs.Words.{next-place}
-use Rattle.text.proofs.Digits.{and-both}
 use Rattle.text.proofs.Lines.{lines-at}
-use Rattle.gaze.specs.Lists.{Each, Adjacent}
+use Rattle.gaze.specs.Lists.{Each}
 use Rattle.gaze.specs.declared.Interruption.the-variants.{None, FromSource, FromTarget}
 use Rattle.gaze.specs.Sheet.{Sheet}
 use Rattle.gaze.specs.Columns.{interruption-of}
-use Rattle.gaze.specs.Ranges.{Within, InterruptionRanges, PointRanges, RuleRanges, QualifierRanges, FeatureRanges, SegmentRanges, SourceType, InOrder, Group, InRange, point-keys, rule-keys, qualifier-keys, feature-keys, segment-keys}
+use Rattle.gaze.specs.Ranges.{Within, InterruptionRanges, PointRanges, RuleRanges, QualifierRanges, FeatureRanges, SegmentRanges, SourceType, Group, InRange, point-keys, rule-keys, qualifier-keys, feature-keys, segment-keys}
 use Rattle.gaze.specs.Ranges as ranges
 use Rattle.gaze.proofs.ListLaws.{each-mapped, adjacent-mapped}
 use Rattle.kinds.specs.declared.Letter.{Letter}
@@ -30,7 +29,7 @@ use Rattle.kinds.specs.Kinds.{field, most-of}
 use Rattle.kinds.specs.Order.{keys-of, compared, decided, order, disorder}
 use Rattle.kinds.proofs.Ranges.{Whole}
 use Rattle.group.specs.declared.Fault.{Fault}
-use Rattle.group.specs.Group.{Outcome, read}
+use Rattle.group.specs.Group.{read}
 use Rattle.group.proofs.Sound.{RowRanges, Sound, sound-none, sound, some-row}
 use Rattle.trailer.specs.Trailer.{part, trailer-of}
 use Rattle.trailer.proofs.Offsets.{Rising, rising}
@@ -38,7 +37,7 @@ use Rattle.columns.specs.Numbers.{number}
 use Rattle.tables.specs.Records.{length-of, point-of, rule-of, qualifier-of, feature-of, segment-of}
 use Rattle.tables.specs.Parts.{group-at}
 use Rattle.tables.proofs.Fields.{Source, Interrupted, PointFields, RuleFields, QualifierFields, FeatureFields, SegmentFields, length-field, point-fields, rule-fields, qualifier-fields, feature-fields, segment-fields}
-use Rattle.sheet.specs.Reading.{Reading, refused, accepted, Groups, groups-of, or-else, first-fault, fault-of, sheet-of, answered, of-groups, reading}
+use Rattle.sheet.specs.Reading.{refused, accepted, Groups, groups-of, first-fault, fault-of, sheet-of, answered, of-groups, reading}
 
 -- ---- the order of keys
 never-same : {A : Type 0} → Same ≡ Before → A

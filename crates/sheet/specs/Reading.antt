@@ -4,7 +4,6 @@ use mathlib.Core.Bool.{_&&_, cond}
 use mathlib.Core.List.{List, [], _∷_, map}
 use Prim.Native.Nat.{ℕ}
 use lib.Dec.{eqb, leb}
-use lib.IntN.{ℤ}
 use lib.ListN.{length, getD}
 use Rattle.gaze.specs.Sheet.{Sheet}
 use Rattle.kinds.specs.declared.Letter.the-variants.{L, P, R, Q, F, S}

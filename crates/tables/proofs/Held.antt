@@ -1,31 +1,28 @@
 -- From a group's rows to the columns that hold it: what a group that is read allows to lay down, and what columns that were laid hold.
 use mathlib.Core.Path.{_≡_, refl, sym, ap, _∙_}
-use mathlib.Core.Logic.{⊎-elim}
-use mathlib.Core.List.{List, [], _∷_, _++_, map}
-use Prim.Native.Nat.{ℕ, zero, suc, _+_, _*_, _≤_, _<_}
-use native.Mathlib.Nat.{mul-le-mul-left, eq-or-lt-of-le}
+use mathlib.Core.List.{List, [], _∷_, map}
+use Prim.Native.Nat.{ℕ, _+_, _*_, _≤_, _<_}
+use native.Mathlib.Nat.{mul-le-mul-left}
 use native.Mathlib.Omega.{arith}
 use lib.IntN.{ℤ, pos}
-use lib.ListN.{length, getD, take, set, length-set, length-map, List·getD-map, List·getD-append}
-use lib.Seq.{sets, length-sets, getD-at, getD-set-same, getD-set-other}
+use lib.ListN.{length, getD, take, length-map, List·getD-map}
+use lib.Seq.{sets, length-sets}
 use Rattle.text.specs.Lines.{lines}
-use Rattle.gaze.specs.declared.Feature.{Feature}
 use Rattle.gaze.specs.Lists.{Each, listed}
-use Rattle.gaze.specs.Sheet.{Sheet, begin, end, candidates, candidate, end-number}
-use Rattle.gaze.specs.Columns.{point-at, rule-at, qualifier-at, segment-at, interruption-of, Points, Rules, Qualifiers, Segments, Candidates, Scores}
+use Rattle.gaze.specs.Sheet.{end}
+use Rattle.gaze.specs.Columns.{point-at, rule-at, qualifier-at, segment-at, interruption-of, Points, Rules, Qualifiers, Segments}
 use Rattle.gaze.proofs.ListLaws.{each-at, each-map, map-by-place}
 use Rattle.kinds.specs.declared.Letter.{Letter}
 use Rattle.kinds.specs.declared.Letter.the-variants.{L}
 use Rattle.kinds.specs.Kinds.{most-of, field}
 use Rattle.group.specs.declared.Tally.{Tally}
-use Rattle.group.specs.declared.Fault.{Fault}
-use Rattle.group.specs.Group.{Outcome, read, tally-of, laid}
+use Rattle.group.specs.Group.{Outcome, tally-of}
 use Rattle.group.proofs.Going.{front-fits, front-is}
 use Rattle.group.proofs.Sound.{RowRanges, Sound, sound-none, sound}
 use Rattle.columns.specs.Numbers.{number, numbers, Small, Lays}
-use Rattle.columns.proofs.Laying.{laid-at, sets-at, sets-before, sets-after}
+use Rattle.columns.proofs.Laying.{laid-at, sets-at}
 use Rattle.trailer.specs.Trailer.{part}
-use Rattle.tables.specs.Records.{length-of, point-of, rule-of, qualifier-of, feature-of, segment-of}
+use Rattle.tables.specs.Records.{length-of, point-of, rule-of, qualifier-of, segment-of}
 use Rattle.tables.specs.Parts.{group-at, PartRead}
 use Rattle.tables.specs.Tables.{Places}
 use Rattle.tables.proofs.Fields.{length-field}

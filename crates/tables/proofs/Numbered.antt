@@ -11,7 +11,6 @@ use lib.Seq.{sets, length-sets, getD-at, getD-set-same, getD-set-other}
 use Rattle.gaze.specs.declared.Feature.{Feature}
 use Rattle.gaze.specs.Sheet.{begin, end, candidates, candidate, end-number}
 use Rattle.gaze.specs.Columns.{Candidates, Scores}
-use Rattle.kinds.specs.declared.Letter.{Letter}
 use Rattle.kinds.specs.declared.Letter.the-variants.{F}
 use Rattle.kinds.specs.Kinds.{field}
 use Rattle.group.specs.declared.Tally.{Tally}
@@ -20,7 +19,7 @@ use Rattle.columns.specs.Numbers.{number, numbers}
 use Rattle.columns.proofs.Laying.{sets-before, sets-after}
 use Rattle.tables.specs.Records.{feature-of}
 use Rattle.tables.specs.Tables.{with-features}
-use Rattle.tables.proofs.Held.{Got, count-is, Column, column-of, SignedColumn, signed-of}
+use Rattle.tables.proofs.Held.{Got, count-is, column-of, signed-of}
 
 any-default : {A : Type 0} (l : List A) (d e : A) (i : ℕ) → i < length l → getD l i d ≡ getD l i e
 any-default [] d e i h = let z : ⊥ = omega arith in absurd z

@@ -1,6 +1,5 @@
 // Reads each group of a sheet into columns of numbers. The rows that a group is read into live no longer than that.
 
-ghost use mathlib.Core.Path.{_≡_};
 ghost use Prim.Native.Nat.{_≤_};
 ghost use lib.ListN.{length};
 ghost use Rattle.kinds.specs.Kinds.{most-of};

@@ -2,18 +2,17 @@
 use mathlib.Core.Path.{_≡_, refl, sym, ap, _∙_}
 use mathlib.Core.Bool.{Bool, true, false, not, _&&_, cond}
 use mathlib.Core.List.{List, [], _∷_}
-use Prim.Native.Nat.{ℕ, zero, suc, _+_, _-_, _<_, _≤_}
+use Prim.Native.Nat.{ℕ, zero, suc, _-_, _<_, _≤_}
 use native.Mathlib.Omega.{arith}
 use borrow.Author.Tests.{eq-eqb, ne-eqb, le-leb, lt-leb, leb-true}
-use lib.Dec.{T, eqb, leb}
-use lib.IntN.{ℤ, pos, negsuc, natAbs}
+use lib.Dec.{eqb, leb}
+use lib.IntN.{ℤ, pos, natAbs}
 use lib.ListN.{length, getD}
-use lib.Signed.{nonNeg}
 use Rattle.text.specs.declared.Row.{Row}
 use Rattle.text.specs.Fields.{line, row-of}
 use Rattle.text.proofs.Digits.{and-both}
 use Rattle.kinds.specs.Kinds.{between, field}
-use Rattle.kinds.proofs.Ranges.{Whole, whole-of}
+use Rattle.kinds.proofs.Ranges.{whole-of}
 use Rattle.trailer.specs.declared.Trailer.{Trailer}
 use Rattle.trailer.specs.Trailer.{begins, last-begin, offset, last-line, last-row, part, offsets-of, no-trailer, trailer-of}
 

@@ -2,7 +2,6 @@
 use mathlib.Core.Path.{_≡_, refl, ap, _∙_}
 use Prim.Native.Nat.{ℕ, _-_, _+_, _≤_}
 use native.Mathlib.Omega.{arith}
-use lib.IntN.{natAbs}
 use lib.ListN.{length, length-set}
 use lib.Seq.{sets}
 use mir.Syntax.{w64}

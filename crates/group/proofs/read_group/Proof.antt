@@ -1,6 +1,6 @@
 -- `read_group` is right because it reads line after line and stops at the first fault. The invariant: the lines up to `place` are read, and their rows are the
 -- front of the table.
-use mathlib.Core.Path.{_≡_, refl, sym, ap, ap₂, _∙_}
+use mathlib.Core.Path.{_≡_, refl, sym, ap₂, _∙_}
 use Prim.Native.Nat.{ℕ, _-_, _+_, _<_}
 use native.Mathlib.Omega.{arith}
 use lib.IntN.{pos}
@@ -11,7 +11,7 @@ use mir.Val.{toZ}
 use denote.Ref.{now}
 use Rattle.text.specs.Fields.{line, row-of}
 use Rattle.text.proofs.Words.{Found, found}
-use Rattle.group.specs.Group.{row-at, fault}
+use Rattle.group.specs.Group.{row-at}
 use Rattle.group.proofs.Going.{LineAt, Going, going-start, going-end, going-stop, going-room, going-next}
 use borrow.Author.Needs.{needs}
 use Rattle.group.proofs.read_group.Statement.{statement}

@@ -1,6 +1,6 @@
 -- `by_two` is right because the second key is asked only where the first is the same.
-use mathlib.Core.Path.{_≡_, ap₂, _∙_}
-use Rattle.kinds.specs.Order.{decided, order}
+use mathlib.Core.Path.{ap₂, _∙_}
+use Rattle.kinds.specs.Order.{decided}
 use Rattle.kinds.proofs.Orders.{first-key}
 use borrow.Author.Needs.{needs}
 use Rattle.kinds.proofs.by_two.Statement.{statement}

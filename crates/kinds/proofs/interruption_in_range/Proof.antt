@@ -1,5 +1,5 @@
 -- `interruption_in_range` is right because its test for kind 0 is the one by which the definition goes.
-use mathlib.Core.Path.{_≡_, sym, ap₂, _∙_}
+use mathlib.Core.Path.{sym, ap₂, _∙_}
 use mathlib.Core.Bool.{_&&_}
 use Rattle.kinds.specs.Kinds.{interruption}
 use borrow.Author.Needs.{needs}

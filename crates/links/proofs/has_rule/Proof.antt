@@ -1,5 +1,5 @@
 -- `has_rule` is right because it stops at the first rule of the source and target. The invariant: the rules before i are of others.
-use mathlib.Core.Path.{_≡_, refl, sym, ap, _∙_}
+use mathlib.Core.Path.{_≡_, sym, ap, _∙_}
 use mathlib.Core.Bool.{_&&_}
 use mathlib.Core.List.{List}
 use Prim.Native.Nat.{_≤_, _-_}
@@ -7,7 +7,7 @@ use native.Mathlib.Omega.{arith}
 use lib.Dec.{eqb}
 use denote.Ref.{now}
 use Rattle.gaze.specs.declared.Rule.{Rule}
-use Rattle.gaze.specs.Lists.{some-of, listed}
+use Rattle.gaze.specs.Lists.{listed}
 use Rattle.gaze.specs.Columns.{rule-at}
 use Rattle.links.specs.Links.{has-rule}
 use Rattle.links.proofs.Sought.{all-listed, some-here, some-later, some-end}

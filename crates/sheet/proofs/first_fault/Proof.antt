@@ -1,5 +1,5 @@
 -- `first_fault` is right because the definition asks them in the same order.
-use mathlib.Core.Path.{_≡_, refl}
+use mathlib.Core.Path.{refl}
 use Rattle.sheet.specs.Reading.{first-fault}
 use borrow.Author.Needs.{needs}
 use Rattle.sheet.proofs.first_fault.Statement.{statement}

@@ -1,6 +1,5 @@
 -- `read_groups` is right because each group's reader hands over what its group is, and the faults are asked in the order of the checks.
 use mathlib.Core.Path.{_∙_}
-use native.Mathlib.Omega.{arith}
 use denote.Ref.{now}
 use Rattle.sheet.specs.Reading.{groups-of}
 use Rattle.sheet.proofs.Answering.{GroupsRead, qualifiers-placed, rules-placed, points-long, unruled-is, unpointed-is, groups-answered}

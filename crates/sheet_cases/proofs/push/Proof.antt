@@ -1,7 +1,6 @@
 -- `push` is safe because what it lends comes back as long as it was. The invariant says that.
-use mathlib.Core.Path.{_≡_, refl}
+use mathlib.Core.Path.{_≡_}
 use Prim.Native.Nat.{_-_}
-use native.Mathlib.Omega.{arith}
 use lib.ListN.{length}
 use borrow.Author.Needs.{needs}
 use Rattle.sheet_cases.proofs.push.Statement.{statement}

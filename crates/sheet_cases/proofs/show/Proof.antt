@@ -2,7 +2,6 @@
 use mathlib.Core.Path.{sym}
 use lib.Seq.{length-take-le}
 use native.Mathlib.Omega.{arith}
-use denote.Ref.{now}
 use borrow.Author.Needs.{needs}
 use Rattle.sheet_cases.proofs.show.Statement.{statement}
 use Rattle.sheet_cases.proofs.show.Tie as tie

@@ -1,7 +1,6 @@
 -- `read_trailer` is right because it makes the checks of the definition in its order, and each offset is asked after the one before it.
-use mathlib.Core.Path.{_≡_, _∙_}
+use mathlib.Core.Path.{_∙_}
 use denote.Ref.{now}
-use lib.ListN.{length}
 use Rattle.trailer.proofs.Offsets.{Last, Five, trailer-unended, trailer-malformed, trailer-wrong, trailer-right}
 use borrow.Author.Needs.{needs}
 use Rattle.trailer.proofs.read_trailer.Statement.{statement}
