@@ -6,7 +6,91 @@ ghost use Rattle.gaze.specs.Sheet.{Sheet, end-number};
 ghost use Rattle.gaze.specs.Step.{steps};
 ghost use Rattle.chains.specs.Tables.{Searched, SameLengths};
 ghost use Rattle.step.specs.Model.{Model, Scratch};
+ghost use mathlib.Core.List.{List};
+ghost use Rattle.gaze.specs.declared.Segment.{Segment};
 ghost use Rattle.engine.specs.Search.{Held, Places};
+ghost use Rattle.engine.specs.Prepared.{SegmentColumns, SomeSegments, SlottedFor, Parts, SomeSheet, PreparedFor};
+
+// Segments by slot, with their rates.
+pub struct Slotted {
+    pub total: usize,
+    pub at: [usize; 65],
+    pub start: [u32; 3072],
+    pub end: [u32; 3072],
+    pub score: [i64; 3072],
+    pub rate: [i64; 3072],
+}
+
+fn group_segments<'a>(
+    kind: &'a [u32],
+    start: &'a [u32],
+    end: &'a [u32],
+    score: &'a [i64],
+    count: usize,
+) -> Slotted
+    requires { ⌜ SomeSegments (now kind) (now start) (now end) (now score) count ⌝ }
+    ensures { λ r. ⌜ ((segments : List Segment) → SegmentColumns segments (now (kind .entry)) (now (start .entry)) (now (end .entry)) (now (score .entry)) count → SlottedFor segments r) ⌝ }
+{
+    let mut at = [0usize; 65];
+    let mut starts = [0u32; 3072];
+    let mut ends = [0u32; 3072];
+    let mut scores = [0i64; 3072];
+    let mut rates = [0i64; 3072];
+    let total = slots::group(
+        kind,
+        start,
+        end,
+        score,
+        count,
+        &mut at,
+        &mut starts,
+        &mut ends,
+        &mut scores,
+    );
+    rows::fill_rates(&starts, &ends, &scores, 0, total, &mut rates);
+    Slotted {
+        total,
+        at,
+        start: starts,
+        end: ends,
+        score: scores,
+        rate: rates,
+    }
+}
+
+// The tables that are made of a sheet's columns once, and lent from then on.
+pub struct Prepared {
+    pub table: [u32; 1024],
+    pub first: [usize; 18],
+    pub intron: [i64; 1024],
+    pub pairs: [usize; 1025],
+    pub segments: Slotted,
+}
+
+pub fn prepare<'a>(
+    function: &'a [u32],
+    points: usize,
+    rules: &'a [u32],
+    ruled: usize,
+    lines: &'a [u32],
+    lined: usize,
+    kind: &'a [u32],
+    start: &'a [u32],
+    end: &'a [u32],
+    score: &'a [i64],
+    count: usize,
+) -> Prepared
+    requires { ⌜ SomeSheet (now function) points (now rules) ruled (now lines) lined (now kind) (now start) (now end) (now score) count ⌝ }
+    ensures { λ r. ⌜ ((sheet : Sheet) → Parts sheet (now (function .entry)) points (now (rules .entry)) ruled (now (lines .entry)) lined (now (kind .entry)) (now (start .entry)) (now (end .entry)) (now (score .entry)) count → PreparedFor sheet (now (function .entry)) (now (rules .entry)) (now (lines .entry)) r) ⌝ }
+{
+    Prepared {
+        table: rules::rule_table(rules, ruled),
+        first: penalty::first_rows(function, points),
+        intron: penalty::intron_table(),
+        pairs: lines::line_table(lines, lined),
+        segments: group_segments(kind, start, end, score, count),
+    }
+}
 
 // Fills the table of `n` candidates: BEGIN, and then target after target from the rows of its steps.
 fn search<'a>(
