@@ -2,3 +2,4 @@ pub mod Choices
 pub mod Entries
 pub mod Traces
 pub mod Pairs
+pub mod Answering

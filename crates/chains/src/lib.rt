@@ -4,10 +4,11 @@
 ghost use mathlib.Core.Path.{_≡_};
 ghost use mathlib.Core.Bool.{not};
 ghost use mathlib.Core.List.{_++_, reverse};
-ghost use Prim.Native.Nat.{_+_, _<_, _≤_};
+ghost use Prim.Native.Nat.{_+_, _-_, _<_, _≤_};
 ghost use lib.Dec.{T};
 ghost use lib.ListN.{length, drop};
 ghost use Rattle.gaze.specs.Chain.{Steps, Chain};
+ghost use Rattle.chains.specs.Answer.{Finished, Answers};
 ghost use Rattle.chains.specs.Tables.{row-steps, Sources, Choosing, Row, Searched, Room, SameLengths, way-back, Tracing};
 
 // What has been chosen among the sources so far: `found` says whether there is one, and no low score stands for "none".
@@ -138,6 +139,34 @@ pub fn trace(e: usize, from: &[u32], chain: &mut [u32]) -> usize
     }
     chain[0] = 0;
     n
+}
+
+// What a filled table answers: the best chain, of which `count` candidates stand in the caller's buffer, or that there is no valid one.
+pub enum Found {
+    Best { score: i64, count: usize },
+    Nothing,
+}
+
+// The answer for the last of `n` candidates.
+pub fn answer<'a>(
+    reach: &'a [bool],
+    value: &'a [i64],
+    from: &'a [u32],
+    n: usize,
+    chain: &mut [u32],
+) -> Found
+    requires { ⌜ Finished n (now reach) (now value) (now from) ⌝ ∗ ⌜ n ≤ length (now chain) ⌝ }
+    ensures { λ r. ⌜ ((m : Steps) → Searched m n (now (reach .entry)) (now (value .entry)) (now (from .entry)) → Answers m (n - 1) (now (chain .entry)) r (now (chain .exit))) ⌝ }
+{
+    let e = n - 1;
+    if !reach[e] {
+        return Found::Nothing;
+    }
+    let count = trace(e, from, chain);
+    Found::Best {
+        score: value[e],
+        count,
+    }
 }
 
 // Whether `c` is a chain that ends at `e`.
