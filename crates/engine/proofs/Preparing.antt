@@ -3,7 +3,7 @@ use mathlib.Core.Path.{_≡_, refl, sym, ap, _∙_, subst}
 use mathlib.Core.Logic.{⊎-elim}
 use mathlib.Core.Bool.{true, false}
 use mathlib.Core.List.{List}
-use Prim.Native.Nat.{ℕ, _≤_, _<_}
+use Prim.Native.Nat.{ℕ, _-_, _≤_, _<_}
 use native.Mathlib.Omega.{arith}
 use lib.IntN.{ℤ}
 use lib.ListN.{length, replicate, length-replicate, getD-replicate}
@@ -11,7 +11,7 @@ use Rattle.gaze.specs.declared.Point.{Point}
 use Rattle.gaze.specs.declared.Rule.{Rule}
 use Rattle.gaze.specs.declared.Qualifier.{Qualifier}
 use Rattle.gaze.specs.Lists.{Each, listed}
-use Rattle.gaze.specs.Sheet.{Sheet}
+use Rattle.gaze.specs.Sheet.{Sheet, end-number}
 use Rattle.gaze.specs.Penalty.{penalty}
 use Rattle.gaze.specs.Ranges.{SourceType, PointRanges, RuleRanges, QualifierRanges, point-keys, Group}
 use Rattle.gaze.specs.Columns.{point-at, rule-at, Candidates, Scores, Points}
@@ -26,7 +26,7 @@ use Rattle.slots.proofs.Classes.{slot-low}
 use Rattle.regions.specs.Evidence.{Marked}
 use Rattle.costs.specs.Rows.{Penalties}
 use Rattle.engine.specs.declared.Prepared.{Prepared}
-use Rattle.engine.specs.Prepared.{SegmentColumns, SlottedFor, Parts, PreparedFor}
+use Rattle.engine.specs.Prepared.{SegmentColumns, SlottedFor, Parts, PreparedFor, ReadyFor}
 
 -- BEGIN's type is 0, the others' are at most 31
 source-low : {x : ℕ} → SourceType x → x ≤ 31
@@ -109,3 +109,18 @@ module _ {sheet : Sheet} {functions : List ℕ} {points : ℕ} {rules : List ℕ
               used-long = omega (arith, length-replicate 64 true);
             };
       }
+
+-- ---- a sheet that is ready for the search
+module _ {sheet : Sheet} {kinds positions : List ℕ} {scores : List ℤ} {rules distances : List ℕ} {penalties : List ℤ} {lines : List ℕ} {tables : Prepared} {n : ℕ}
+    (r : ReadyFor sheet kinds positions scores rules distances penalties lines tables n) where
+  pub ready-some : 0 < n
+  ready-some = omega (arith, r .all)
+
+  pub ready-few : n ≤ 1026
+  ready-few = omega (arith, r .all, r .model .costs .legality .ranged .features .few)
+
+  pub ready-rows : tables .segments .total ≤ 2048
+  ready-rows = omega (arith, r .model .slots .few, r .model .costs .legality .ranged .segments .few)
+
+  pub ready-end : n - 1 ≡ end-number sheet
+  ready-end = omega (arith, r .all)

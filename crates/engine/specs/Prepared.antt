@@ -2,11 +2,11 @@
 use mathlib.Core.Path.{_≡_}
 use mathlib.Core.Bool.{true}
 use mathlib.Core.List.{List}
-use Prim.Native.Nat.{ℕ, _≤_}
+use Prim.Native.Nat.{ℕ, suc, _≤_}
 use lib.IntN.{ℤ}
 use lib.ListN.{length, replicate}
 use Rattle.gaze.specs.declared.Segment.{Segment}
-use Rattle.gaze.specs.Sheet.{Sheet}
+use Rattle.gaze.specs.Sheet.{Sheet, end-number}
 use Rattle.gaze.specs.Ranges.{SegmentRanges, segment-keys, Group, InRange}
 use Rattle.gaze.specs.Columns.{Candidates, Scores, Points, Rules, Qualifiers, Segments}
 use Rattle.slots.specs.Slots.{Slots}
@@ -59,3 +59,13 @@ pub record PreparedFor (sheet : Sheet) (functions rules lines : List ℕ) (r : P
       → Points (sheet .points) functions distances penalties
       → Model sheet kinds positions scores rules (r .table) distances penalties (r .first) (r .intron) lines (r .pairs)
       (r .segments .at) (r .segments .start) (r .segments .end) (r .segments .score) (r .segments .rate) (r .segments .total) (replicate 64 true)
+
+-- The columns and the tables hold the sheet, which has n candidates.
+pub record ReadyFor (sheet : Sheet) (kinds positions : List ℕ) (scores : List ℤ) (rules distances : List ℕ) (penalties : List ℤ) (lines : List ℕ) (tables : Prepared) (n : ℕ) : Type 0 where
+  pub model : Model sheet kinds positions scores rules (tables .table) distances penalties (tables .first) (tables .intron) lines (tables .pairs)
+      (tables .segments .at) (tables .segments .start) (tables .segments .end) (tables .segments .score) (tables .segments .rate) (tables .segments .total) (replicate 64 true)
+  pub all : n ≡ suc (end-number sheet)
+
+pub record Ready (kinds positions : List ℕ) (scores : List ℤ) (rules distances : List ℕ) (penalties : List ℤ) (lines : List ℕ) (tables : Prepared) (n : ℕ) : Type 0 where
+  pub sheet : Sheet
+  pub ready : ReadyFor sheet kinds positions scores rules distances penalties lines tables n

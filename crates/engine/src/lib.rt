@@ -1,15 +1,18 @@
-// The engine: the best chain of a sheet that is held in columns, and the verdict on a chain sent in.
+// The engine: the best chain of a sheet that is held in columns.
 
 ghost use mathlib.Core.Path.{_≡_};
 ghost use Prim.Native.Nat.{suc};
 ghost use Rattle.gaze.specs.Sheet.{Sheet, end-number};
 ghost use Rattle.gaze.specs.Step.{steps};
+ghost use Rattle.chains.specs.Answer.{Answers};
 ghost use Rattle.chains.specs.Tables.{Searched, SameLengths};
 ghost use Rattle.step.specs.Model.{Model, Scratch};
 ghost use mathlib.Core.List.{List};
+ghost use Prim.Native.Nat.{_≤_};
+ghost use lib.ListN.{length};
 ghost use Rattle.gaze.specs.declared.Segment.{Segment};
 ghost use Rattle.engine.specs.Search.{Held, Places};
-ghost use Rattle.engine.specs.Prepared.{SegmentColumns, SomeSegments, SlottedFor, Parts, SomeSheet, PreparedFor};
+ghost use Rattle.engine.specs.Prepared.{SegmentColumns, SomeSegments, SlottedFor, Parts, SomeSheet, PreparedFor, ReadyFor, Ready};
 
 // Segments by slot, with their rates.
 pub struct Slotted {
@@ -165,4 +168,65 @@ fn search<'a>(
         chains::settle(legal, gains, e, reach, value, from);
         e += 1;
     }
+}
+
+// The best chain of `n` candidates, written into the front of `chain`.
+pub fn best_chain<'a>(
+    kind: &'a [u32],
+    position: &'a [u32],
+    score: &'a [i64],
+    rules: &'a [u32],
+    distance: &'a [u32],
+    penalty: &'a [i64],
+    lines: &'a [u32],
+    tables: Prepared,
+    n: usize,
+    chain: &mut [u32],
+) -> chains::Found
+    requires { ⌜ Ready (now kind) (now position) (now score) (now rules) (now distance) (now penalty) (now lines) tables n ⌝ ∗ ⌜ n ≤ length (now chain) ⌝ }
+    ensures { λ r. ⌜ ((sheet : Sheet) → ReadyFor sheet (now (kind .entry)) (now (position .entry)) (now (score .entry)) (now (rules .entry)) (now (distance .entry)) (now (penalty .entry)) (now (lines .entry)) tables n → Answers (steps sheet) (end-number sheet) (now (chain .entry)) r (now (chain .exit))) ⌝ }
+{
+    let used = [true; 64];
+    let mut bounds = [0usize; 65];
+    let mut starts = [0u32; 2048];
+    let mut ends = [0u32; 2048];
+    let mut scores = [0i64; 2048];
+    let mut rates = [0i64; 2048];
+    let mut legal = [false; 1026];
+    let mut gains = [0i64; 1026];
+    let mut reach = [false; 1026];
+    let mut value = [0i64; 1026];
+    let mut from = [0u32; 1026];
+    search(
+        kind,
+        position,
+        score,
+        rules,
+        &tables.table,
+        distance,
+        penalty,
+        &tables.first,
+        &tables.intron,
+        lines,
+        &tables.pairs,
+        &tables.segments.at,
+        &tables.segments.start,
+        &tables.segments.end,
+        &tables.segments.score,
+        &tables.segments.rate,
+        tables.segments.total,
+        &used,
+        n,
+        &mut bounds,
+        &mut starts,
+        &mut ends,
+        &mut scores,
+        &mut rates,
+        &mut legal,
+        &mut gains,
+        &mut reach,
+        &mut value,
+        &mut from,
+    );
+    chains::answer(&reach, &value, &from, n, chain)
 }
