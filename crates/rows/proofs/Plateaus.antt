@@ -7,8 +7,9 @@ use Prim.Native.Nat.{ℕ, zero, suc, _+_, _-_, _≤_, _<_, min}
 use native.Mathlib.Nat.{add-suc, add-zero, add-assoc, eq-or-lt-of-le}
 use native.Mathlib.Omega.{arith}
 use borrow.Author.Tests.{le-leb, lt-leb}
-use lib.IntN.{ℤ, pos, natAbs, _+ℤ_, _*ℤ_, *ℤ-zero, *ℤ-comm, sucℤ-*ℤ, +ℤ-idr, +ℤ-assoc}
+use lib.IntN.{ℤ, pos, natAbs, _+ℤ_, _*ℤ_, *ℤ-zero, +ℤ-idr, +ℤ-assoc}
 use lib.ListN.{getD}
+use Rattle.whole.proofs.Order.{*ℤ-suc}
 use Rattle.gaze.specs.declared.Segment.{Segment}
 use Rattle.gaze.specs.Lists.{keep, listed}
 use Rattle.gaze.specs.SegmentScore.{enters, holds, largest, sum-over}
@@ -177,9 +178,6 @@ peak-small {b} {starts} {ends} {rates} {lo} {hi} kind x s =
     (each-listed (λ g. natAbs (g .score) ≤ b) (row kind starts ends rates) lo (hi - lo) (λ i m n. s .each i m (omega (arith, s .ordered)) .small))))
 
 -- ---- sums over bases
-times-suc : (z : ℤ) (n : ℕ) → z *ℤ pos (suc n) ≡ z *ℤ pos n +ℤ z
-times-suc z n = *ℤ-comm z (pos (suc n)) ∙ (sucℤ-*ℤ (pos n) z ∙ ap (λ (y : ℤ). y +ℤ z) (*ℤ-comm (pos n) z))
-
 sum-split : (f : ℕ → ℤ) (a n m : ℕ) → sum-over f a (n + m) ≡ sum-over f a n +ℤ sum-over f (a + n) m
 unfolding sum-over
 sum-split f a n zero = ap (sum-over f a) (add-zero n) ∙ sym (+ℤ-idr (sum-over f a n))
@@ -199,7 +197,7 @@ sum-flat : (f : ℕ → ℤ) (a n : ℕ) (z : ℤ) → ((y : ℕ) → a ≤ y �
 unfolding sum-over
 sum-flat f a zero z h = sym (*ℤ-zero z)
 sum-flat f a (suc n) z h =
-    ap₂ _+ℤ_ (sum-flat f a n z (λ y l m. h y l (omega arith))) (h (a + n) (omega arith) (omega arith)) ∙ sym (times-suc z n)
+    ap₂ _+ℤ_ (sum-flat f a n z (λ y l m. h y l (omega arith))) (h (a + n) (omega arith) (omega arith)) ∙ sym (*ℤ-suc z n)
 
 -- ---- the walk from edge to edge
 pub record Walking (starts ends : List ℕ) (rates : List ℤ) (lo hi from to at : ℕ) (sum : ℤ) : Type 0 where

@@ -8,6 +8,7 @@ use lib.IntN.{ℤ, pos}
 use lib.ListN.{length}
 use lib.Signed.{leZ}
 use Rattle.whole.specs.Whole.{larger-of}
+use Rattle.whole.proofs.Comparisons.{larger-again}
 use Rattle.gaze.specs.declared.Segment.{Segment}
 use Rattle.gaze.specs.Lists.{Each, keep, listed}
 use Rattle.gaze.specs.SegmentScore.{enters, share, largest, largest-share}
@@ -20,19 +21,12 @@ abbrev Zeros : List ℤ → Type 0
 Zeros l = Each (λ z. z ≡ pos 0) l
 
 -- ---- zeros at the end of a list
-again : (v : ℤ) → larger-of (larger-of v (pos 0)) (pos 0) ≡ larger-of v (pos 0)
-again v = go (leZ v (pos 0)) refl
-  where
-    go : (b : Bool) → leZ v (pos 0) ≡ b → larger-of (cond b (pos 0) v) (pos 0) ≡ cond b (pos 0) v
-    go true e = refl
-    go false e = rw e refl
-
 fold-zeros : (v : ℤ) (l : List ℤ) → Zeros l → foldl larger-of (larger-of v (pos 0)) l ≡ larger-of v (pos 0)
 unfolding Each
 fold-zeros v [] p = refl
 fold-zeros v (z ∷ l) p =
     ap (λ (y : ℤ). foldl larger-of (larger-of (larger-of v (pos 0)) y) l) (p .0)
-    ∙ (ap (λ (y : ℤ). foldl larger-of y l) (again v) ∙ fold-zeros v l (p .1))
+    ∙ (ap (λ (y : ℤ). foldl larger-of y l) (larger-again v) ∙ fold-zeros v l (p .1))
 
 zeros-alone : (l : List ℤ) → Zeros l → largest l ≡ pos 0
 unfolding Each

@@ -12,6 +12,7 @@ use lib.IntN.{ℤ, pos}
 use lib.ListN.{length, getD, set, length-set}
 use lib.Signed.{leZ}
 use Rattle.whole.specs.Whole.{larger-of}
+use Rattle.whole.proofs.Comparisons.{larger-kept, larger-above, larger-of-zero}
 use Rattle.gaze.specs.declared.Segment.{Segment}
 use Rattle.gaze.specs.SegmentScore.{enters}
 use Rattle.gaze.proofs.ListLaws.{listed-none, listed-more}
@@ -20,7 +21,6 @@ use Rattle.rows.specs.Rows.{stretch, row, rows, Good}
 use Rattle.rows.specs.Maximum.{Looked, Beaten}
 use Rattle.rows.specs.Peaks.{held}
 use Rattle.rows.proofs.Picking.{Picked, pick-none, pick-step, looked-kept}
-use Rattle.rows.proofs.Shares.{larger-kept, larger-above, larger-of-zero}
 use Rattle.rows.proofs.Plateaus.{held-before, held-behind}
 use Rattle.segment.specs.Choice.{Put, Room}
 use Rattle.segment.proofs.Choosing.{rows-put, goods-put}

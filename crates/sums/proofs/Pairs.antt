@@ -4,9 +4,10 @@ use mathlib.Core.Bool.{Bool, true, false}
 use mathlib.Core.List.{List}
 use Prim.Native.Nat.{ℕ, _+_, _-_, _*_, _/_, _≤_, _<_}
 use native.Mathlib.Omega.{arith}
-use lib.IntN.{ℤ, pos, natAbs, _+ℤ_, _-ℤ_, +ℤ-comm, +ℤ-negℤ-cancel}
+use lib.IntN.{ℤ, pos, natAbs, _-ℤ_}
 use lib.ListN.{getD}
 use Rattle.whole.specs.Whole.{floor-of}
+use Rattle.whole.proofs.Order.{+ℤ-drop-first}
 use Rattle.whole.proofs.Size.{abs-dif}
 use Rattle.gaze.specs.declared.Segment.{Segment}
 use Rattle.gaze.specs.declared.Qualifier.{Qualifier}
@@ -21,9 +22,6 @@ use Rattle.slots.proofs.Grouping.{rated-within}
 use Rattle.slots.proofs.Lines.{score-any}
 use Rattle.sums.specs.Table.{Filled, Sums}
 
-drop-first : (x y : ℤ) → (x +ℤ y) -ℤ x ≡ y
-drop-first x y = ap (λ (z : ℤ). z -ℤ x) (+ℤ-comm x y) ∙ +ℤ-negℤ-cancel y x
-
 -- the difference is the sum over the region
 difference : (starts ends : List ℕ) (rates : List ℤ) (lo hi : ℕ) (positions : List ℕ) (base n : ℕ) (table : List ℤ) → Filled starts ends rates lo hi positions base n table
     → (kind i j : ℕ) → i < n → j < n → getD positions i 0 ≤ getD positions j 0
@@ -34,7 +32,7 @@ difference starts ends rates lo hi positions base n table f kind i j hi′ hj h 
     let a = f .along j hj in
     let F = peak (rows kind starts ends rates lo hi) in
     ap₂ _-ℤ_ (a .is kind ∙ sum-joined F 1 (getD positions i 0) (getD positions j 0 + 1) (b .begun) (omega arith)) (b .is kind)
-    ∙ drop-first (sum-over F 1 (getD positions i 0 - 1)) (sum-over F (getD positions i 0) (getD positions j 0 + 1 - getD positions i 0))
+    ∙ +ℤ-drop-first (sum-over F 1 (getD positions i 0 - 1)) (sum-over F (getD positions i 0) (getD positions j 0 + 1 - getD positions i 0))
 
 pub difference-small : (x y : ℤ) (b : ℕ) → natAbs x ≤ b → natAbs y ≤ b → natAbs (x -ℤ y) ≤ b + b
 difference-small x y b h k = omega (arith, abs-dif x y)

@@ -1,5 +1,6 @@
 pub mod Linear
 pub mod Order
+pub mod Comparisons
 pub mod Size
 pub mod Quotients
 pub mod Sums

@@ -1,8 +1,8 @@
 -- The order of ℤ, what `lib.Signed` leaves out, and how sums go with it: each law by the linear ones.
-use mathlib.Core.Path.{_≡_, ap}
-use Prim.Native.Nat.{ℕ}
+use mathlib.Core.Path.{_≡_, ap, _∙_}
+use Prim.Native.Nat.{ℕ, suc}
 use native.Mathlib.Omega.{arith}
-use lib.IntN.{ℤ, pos, _+ℤ_}
+use lib.IntN.{ℤ, pos, _+ℤ_, _-ℤ_, _*ℤ_, +ℤ-comm, +ℤ-negℤ-cancel, *ℤ-comm, sucℤ-*ℤ}
 use lib.Signed.{_≤ℤ_, _<ℤ_}
 use Rattle.whole.proofs.Linear.{up, dn, sum-law, le-law, le-of, lt-law, lt-of, eq-of}
 
@@ -38,3 +38,10 @@ pub +ℤ-cancel-r : {a b : ℤ} (c : ℤ) → a +ℤ c ≡ b +ℤ c → a ≡ b
 pub +ℤ-swap : (a b c : ℤ) → (a +ℤ b) +ℤ c ≡ (a +ℤ c) +ℤ b
 +ℤ-swap a b c =
     eq-of ((a +ℤ b) +ℤ c) ((a +ℤ c) +ℤ b) (omega (arith, sum-law a b, sum-law (a +ℤ b) c, sum-law a c, sum-law (a +ℤ c) b))
+
+pub +ℤ-drop-first : (x y : ℤ) → (x +ℤ y) -ℤ x ≡ y
++ℤ-drop-first x y = ap (λ (z : ℤ). z -ℤ x) (+ℤ-comm x y) ∙ +ℤ-negℤ-cancel y x
+
+-- once more of z
+pub *ℤ-suc : (z : ℤ) (n : ℕ) → z *ℤ pos (suc n) ≡ z *ℤ pos n +ℤ z
+*ℤ-suc z n = *ℤ-comm z (pos (suc n)) ∙ (sucℤ-*ℤ (pos n) z ∙ ap (λ (y : ℤ). y +ℤ z) (*ℤ-comm (pos n) z))

@@ -2,18 +2,19 @@
 -- which is rounded towards zero, gives it.
 use mathlib.Core.Path.{_≡_, refl, sym, ap, _∙_}
 use mathlib.Core.Bool.{true, false, true≢false}
-use Prim.Native.Nat.{ℕ, suc, _+_, _-_, _*_, _/_, _≤_, _<_, zero-le}
-use native.Mathlib.Nat.{div-le-self, div-le-of-le-mul, mul-comm, div-lt-iff-lt-mul, lt-of-le-of-lt, zero-div, mul-div-cancel, div-eq-of-lt-le, suc-mul}
+use Prim.Native.Nat.{ℕ, zero, suc, _+_, _-_, _*_, _/_, _≤_, _<_, zero-le}
+use native.Mathlib.Nat.{div-le-self, div-le-of-le-mul, mul-comm, div-lt-iff-lt-mul, lt-of-le-of-lt, zero-div, mul-div-cancel, div-eq-of-lt-le, suc-mul, mul-le-mul-right}
 use native.Mathlib.Numerals.{add-one}
 use native.Mathlib.Omega.{arith}
 use borrow.Author.Tests.{le-leb}
-use lib.Dec.{leb→le}
+use lib.Dec.{leb, leb→le}
 use lib.IntN.{ℤ, pos, negsuc, negℤ, natAbs, _-ℤ_, _*ℤ_, *ℤ-zero}
 use lib.Signed.{leZ, quotZ, _≤ℤ_}
 use mir.Syntax.{w64}
 use mir.Val.{SFits, ofZ}
 use Rattle.whole.specs.Whole.{floor-of}
 use Rattle.whole.proofs.Linear.{dif-law, eq-of}
+use Rattle.whole.proofs.Comparisons.{le-through}
 
 pub abs-floor : (z : ℤ) (m : ℕ) → natAbs (floor-of z m) ≤ natAbs z
 abs-floor (pos a) m = div-le-self a m
@@ -56,6 +57,18 @@ turned-up n = eq-of (negsuc 0 -ℤ negsuc n) (pos n) (omega (arith, dif-law (neg
 
 turned-down : (n : ℕ) → negsuc 0 -ℤ pos n ≡ negsuc n
 turned-down n = eq-of (negsuc 0 -ℤ pos n) (negsuc n) (omega (arith, dif-law (negsuc 0) (pos n)))
+
+-- a part of z, o of n, is above neither z nor 0
+floor-low : (k n : ℕ) → leZ (floor-of (negℤ (pos k)) n) (pos 0) ≡ true
+floor-low zero n = ap (λ (m : ℕ). leb m 0) (zero-div n)
+floor-low (suc k) n = refl
+
+pub floor-share : (z value : ℤ) (o n : ℕ) → o ≤ n → leZ (pos 0) value ≡ true → leZ z value ≡ true → leZ (floor-of (z *ℤ pos o) n) value ≡ true
+floor-share (pos a) value o n h k l = le-through (pos (a * o / n)) (pos a) value (le-leb (a * o / n) a (div-le-of-le-mul n (low a o n h))) l
+  where
+    low : (a o n : ℕ) → o ≤ n → a * o ≤ n * a
+    low a o n h = omega (arith, mul-le-mul-right a h, mul-comm a o)
+floor-share (negsuc a) value o n h k l = le-through (floor-of (negℤ (pos (suc a * o))) n) (pos 0) value (floor-low (suc a * o) n) k
 
 -- what the code meets where a is not negative
 pub record Straight (a m : ℤ) : Type 0 where

@@ -6,7 +6,7 @@ use lib.IntN.{pos}
 use mir.Syntax.{w64}
 use mir.Val.{SFits}
 use mir.Facts.{toZ-ofZ}
-use Rattle.rows.proofs.Shares.{not-below}
+use Rattle.whole.proofs.Comparisons.{not-below}
 use borrow.Author.Needs.{needs}
 use Rattle.rows.proofs.can_win.Statement.{statement}
 use Rattle.rows.proofs.can_win.Tie as tie
