@@ -1,4 +1,4 @@
-// Sheets that are too long for worked examples, built in a buffer and read: as many F lines as there may be and one more, and as many bytes as a sheet may
+// The shortest sheets, and those that are too long for worked examples, built in a buffer and read: as many F lines as there may be and one more, and as many bytes as a sheet may
 // have and one more. Each case prints its groups, its size, and the number and place of its reading.
 
 use libc::STDOUT_FILENO;
@@ -121,6 +121,8 @@ fn crowded(longer: u32) {
 }
 
 fn main() {
+    show(b"", b"\n", 0);
+    show(b"", b"\n", 1);
     features(1024, b"");
     features(1024, b"F 2 4000000 0\n");
     features(1024, b"F 32 4000001 0\n");
