@@ -1,0 +1,40 @@
+-- What each public function replies, and what it leaves in a lent buffer: a row for each number of the table of replies, in the order of the checks.
+-- The rows of one function shut each other out, so that for every input one reply is right.
+use mathlib.Core.Path.{_≡_}
+use mathlib.Core.List.{List, _++_}
+use Prim.Native.Nat.{ℕ, _+_, _≤_, _<_}
+use lib.IntN.{ℤ, pos}
+use lib.ListN.{length, drop}
+use Rattle.gaze.specs.Chain.{Chain, Valid, Best, FirstBad, total}
+use Rattle.gaze.specs.Sheet.{Sheet, end-number}
+use Rattle.gaze.specs.Step.{steps}
+use Rattle.sheet.specs.Reading.{reading, refused, accepted}
+use Rattle.liivokarp.specs.declared.Reply.{Reply}
+
+-- On a refusal score and count are 0.
+abbrev pub refusal : ℕ → ℕ → Reply
+refusal number place = record { number = number; place = place; score = pos 0; count = 0 }
+
+abbrev pub done : ℤ → ℕ → Reply
+done score count = record { number = 0; place = 0; score = score; count = count }
+
+-- n + 2, for a sheet of n features: as many entries as its longest chain has.
+abbrev pub candidates-of : Sheet → ℕ
+candidates-of sheet = length (sheet .features) + 2
+
+-- Assembling, with a buffer that held `chain₀` and now holds `chain`.
+pub data Assembles (bytes chain₀ : List ℕ) (r : Reply) (chain : List ℕ) : Type 0 where
+  -- 1 to 7
+  sheet-refused : (number place : ℕ) → reading bytes ≡ refused number place → r ≡ refusal number place → chain ≡ chain₀
+      → Assembles bytes chain₀ r chain
+  -- 8: the buffer is too short
+  no-room : (sheet : Sheet) → reading bytes ≡ accepted sheet → length chain₀ < candidates-of sheet → r ≡ refusal 8 0 → chain ≡ chain₀
+      → Assembles bytes chain₀ r chain
+  -- 9: no valid chain exists
+  no-structure : (sheet : Sheet) → reading bytes ≡ accepted sheet → candidates-of sheet ≤ length chain₀
+      → ((c : List ℕ) → Valid (steps sheet) (end-number sheet) c → ⊥) → r ≡ refusal 9 0 → chain ≡ chain₀
+      → Assembles bytes chain₀ r chain
+  -- 0: the best chain stands at the front of the buffer, and later entries are unchanged
+  assembled : (sheet : Sheet) → reading bytes ≡ accepted sheet → candidates-of sheet ≤ length chain₀
+      → (c : List ℕ) → Best (steps sheet) (end-number sheet) c → r ≡ done (total (steps sheet) c) (length c) → chain ≡ c ++ drop (length c) chain₀
+      → Assembles bytes chain₀ r chain

@@ -1,0 +1,99 @@
+// The library that a host links. Every public function takes whatever is lent and answers with a reply; its contract says which, by the rows of the
+// table of replies.
+
+ghost use mathlib.Core.Path.{_≡_};
+ghost use Prim.Native.Nat.{_+_, _≤_};
+ghost use lib.ListN.{length};
+ghost use Rattle.gaze.specs.Sheet.{Sheet, end-number};
+ghost use Rattle.gaze.specs.Step.{steps};
+ghost use Rattle.chains.specs.Answer.{Answers};
+ghost use Rattle.liivokarp.specs.Replies.{refusal, done, Assembles};
+ghost use Rattle.liivokarp.specs.Held.{HeldSheet, HoldsSheet, found-reply};
+use chains::Found;
+use sheet::Columns;
+
+#[repr(C)]
+pub struct Reply {
+    pub number: u64,
+    pub place: u64,
+    pub score: i64,
+    pub count: u64,
+}
+
+fn refusal(number: u64, place: u64) -> Reply
+    ensures { λ r. ⌜ r ≡ refusal number place ⌝ }
+{
+    Reply {
+        number,
+        place,
+        score: 0,
+        count: 0,
+    }
+}
+
+fn done(score: i64, count: usize) -> Reply
+    ensures { λ r. ⌜ r ≡ done score count ⌝ }
+{
+    Reply {
+        number: 0,
+        place: 0,
+        score,
+        count: count as u64,
+    }
+}
+
+// The best chain of the sheet that the columns hold, written into the front of `chain`.
+fn best_of(columns: Columns, chain: &mut [u32]) -> Found
+    requires { ⌜ HeldSheet columns ⌝ ∗ ⌜ columns .features + 2 ≤ length (now chain) ⌝ }
+    ensures { λ r. ⌜ ((sheet : Sheet) → HoldsSheet sheet columns → Answers (steps sheet) (end-number sheet) (now (chain .entry)) r (now (chain .exit))) ⌝ }
+{
+    let tables = engine::prepare(
+        &columns.function,
+        columns.points,
+        &columns.rule,
+        columns.rules,
+        &columns.qualifier,
+        columns.qualifiers,
+        &columns.segment_kind,
+        &columns.start,
+        &columns.end,
+        &columns.segment_score,
+        columns.segments,
+    );
+    engine::best_chain(
+        &columns.kind,
+        &columns.position,
+        &columns.score,
+        &columns.rule,
+        &columns.distance,
+        &columns.penalty,
+        &columns.qualifier,
+        tables,
+        columns.features + 2,
+        chain,
+    )
+}
+
+fn found_reply(found: Found) -> Reply
+    ensures { λ r. ⌜ r ≡ found-reply found ⌝ }
+{
+    match found {
+        Found::Best { score, count } => done(score, count),
+        Found::Nothing => refusal(9, 0),
+    }
+}
+
+// The best structure of a sheet, whose chain is written into the front of `chain`.
+#[no_mangle]
+pub extern "C" fn lk_assemble(sheet: &[u8], chain: &mut [u32]) -> Reply
+    ensures { λ r. ⌜ Assembles (now (sheet .entry)) (now (chain .entry)) r (now (chain .exit)) ⌝ }
+{
+    let columns = sheet::read(sheet);
+    if columns.number != 0 {
+        return refusal(columns.number, columns.place);
+    }
+    if chain.len() < columns.features + 2 {
+        return refusal(8, 0);
+    }
+    found_reply(best_of(columns, chain))
+}
