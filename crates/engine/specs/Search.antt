@@ -3,9 +3,12 @@ use mathlib.Core.Path.{_≡_}
 use mathlib.Core.Bool.{Bool}
 use mathlib.Core.List.{List}
 use Prim.Native.Nat.{ℕ, suc, _≤_, _<_}
+use lib.Dec.{T}
 use lib.IntN.{ℤ}
 use lib.ListN.{length}
+use Rattle.gaze.specs.Chain.{Chain}
 use Rattle.gaze.specs.Sheet.{Sheet, end-number}
+use Rattle.gaze.specs.Step.{legal, gain}
 use Rattle.step.specs.Model.{Model}
 
 -- Some sheet is held, which has n candidates.
@@ -22,3 +25,15 @@ pub record Places (n : ℕ) (legals : List Bool) (gains : List ℤ) (reach : Lis
   pub reach-long : n ≤ length reach
   pub value-long : n ≤ length value
   pub from-long : n ≤ length from
+
+-- One step: whether it is legal, and what a legal one gains.
+pub record StepIs (sheet : Sheet) (s t : ℕ) (allowed : Bool) (gained : ℤ) : Type 0 where
+  pub legal-is : allowed ≡ legal sheet s t
+  pub gain-is : T allowed → gained ≡ gain sheet s t
+
+-- Some sheet is held, and the list is a chain of its candidates.
+pub record Walking (kinds positions : List ℕ) (scores : List ℤ) (rows table distances : List ℕ) (penalties : List ℤ) (first : List ℕ) (intron : List ℤ)
+    (lines pairs at starts ends : List ℕ) (worths rates : List ℤ) (total : ℕ) (used : List Bool) (chain : List ℕ) : Type 0 where
+  pub sheet : Sheet
+  pub model : Model sheet kinds positions scores rows table distances penalties first intron lines pairs at starts ends worths rates total used
+  pub is-chain : Chain (end-number sheet) chain

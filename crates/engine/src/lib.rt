@@ -14,6 +14,8 @@ ghost use Rattle.gaze.specs.declared.Segment.{Segment};
 ghost use Rattle.engine.specs.Search.{Held, Places};
 ghost use Rattle.engine.specs.Prepared.{SegmentColumns, SomeSegments, SlottedFor, Parts, SomeSheet, PreparedFor, ReadyFor, Ready};
 
+pub mod lent;
+
 // Segments by slot, with their rates.
 pub struct Slotted {
     pub total: usize,
