@@ -1,16 +1,20 @@
 -- For every input one outcome is right: two that meet a public contract are equal, the lent buffer too.
 use mathlib.Core.Path.{_≡_, refl, sym, ap, _∙_}
+use mathlib.Core.Logic.{_⊎_, inl, inr}
 use mathlib.Core.List.{List, _++_}
 use Prim.Native.Nat.{ℕ, _≤_, _<_}
 use native.Mathlib.Omega.{arith}
 use lib.ListN.{length, drop}
-use Rattle.gaze.specs.Chain.{Best, Valid, total}
+use Rattle.gaze.specs.declared.Verdict.{Verdict}
+use Rattle.gaze.specs.declared.Verdict.the-variants.{NoChain, Breaks, Scores}
+use Rattle.gaze.specs.Chain.{Best, Valid, Judged, total}
 use Rattle.gaze.specs.Sheet.{Sheet, end-number}
 use Rattle.gaze.specs.Step.{steps}
-use Rattle.gaze.proofs.Unique.{best-unique}
+use Rattle.gaze.proofs.Unique.{best-unique, judged-unique}
 use Rattle.sheet.specs.Reading.{Reading, reading, refused, accepted}
 use Rattle.liivokarp.specs.declared.Reply.{Reply}
-use Rattle.liivokarp.specs.Replies.{refusal, done, candidates-of, Assembles, sheet-refused, no-room, no-structure, assembled}
+use Rattle.liivokarp.specs.Replies.{refusal, done, candidates-of, Assembles, sheet-refused, no-room, no-structure, assembled, ScoresChain, its-sheet-refused, no-chain, breaks, scored}
+use Rattle.liivokarp.specs.Held.{verdict-reply}
 
 -- ---- a text is read in one way
 not-both : {x : Reading} {number place : ℕ} {sheet : Sheet} → x ≡ refused number place → x ≡ accepted sheet → ⊥
@@ -61,3 +65,40 @@ assembles-determined {chain₀ = chain₀} (assembled s e l c best h k) (assembl
     let same = same-sheet e e′ in
     let one = one-best same best best′ in
     both (λ t. done (total (steps (same t)) (one t)) (length (one t))) (λ t. one t ++ drop (length (one t)) chain₀) h h′ k k′
+
+-- ---- a lent chain: the sheet is refused, or there is a verdict
+record Refused (bytes : List ℕ) (r : Reply) : Type 0 where
+  number : ℕ
+  place : ℕ
+  read : reading bytes ≡ refused number place
+  replied : r ≡ refusal number place
+
+record Judging (bytes chain : List ℕ) (r : Reply) : Type 0 where
+  sheet : Sheet
+  read : reading bytes ≡ accepted sheet
+  verdict : Verdict
+  judged : Judged (steps sheet) (end-number sheet) chain verdict
+  replied : r ≡ verdict-reply verdict (length chain)
+
+either : {bytes chain : List ℕ} {r : Reply} → ScoresChain bytes chain r → Refused bytes r ⊎ Judging bytes chain r
+either (its-sheet-refused n p e h) = inl (record { number = n; place = p; read = e; replied = h })
+either (no-chain s e never h) = inr (record { sheet = s; read = e; verdict = NoChain; judged = never; replied = h })
+either (breaks s e c k bad h) = inr (record { sheet = s; read = e; verdict = Breaks k; judged = (c, bad); replied = h })
+either {chain = chain} (scored s e v h) = inr (record { sheet = s; read = e; verdict = Scores (total (steps s) chain); judged = (v, refl); replied = h })
+
+one-verdict : {sheet sheet′ : Sheet} (chain : List ℕ) (v w : Verdict) → sheet ≡ sheet′ → Judged (steps sheet) (end-number sheet) chain v
+    → Judged (steps sheet′) (end-number sheet′) chain w → v ≡ w
+one-verdict {sheet} {sheet′} chain v w e p q = judged-unique (steps sheet′) (end-number sheet′) chain v w (rw e at p) q
+
+-- THE THEOREM for `lk_score_chain`, which changes no buffer
+pub scores-determined : {bytes chain : List ℕ} {r r′ : Reply} → ScoresChain bytes chain r → ScoresChain bytes chain r′ → r ≡ r′
+scores-determined {bytes} {chain} {r} {r′} a b = go (either a) (either b)
+  where
+    go : Refused bytes r ⊎ Judging bytes chain r → Refused bytes r′ ⊎ Judging bytes chain r′ → r ≡ r′
+    go (inl p) (inl q) = p .replied ∙ (same-refusal (p .read) (q .read) ∙ sym (q .replied))
+    go (inl p) (inr q) = absurd (not-both (p .read) (q .read))
+    go (inr p) (inl q) = absurd (not-both (q .read) (p .read))
+    go (inr p) (inr q) =
+        p .replied
+        ∙ (ap (λ (v : Verdict). verdict-reply v (length chain)) (one-verdict chain (p .verdict) (q .verdict) (same-sheet (p .read) (q .read)) (p .judged) (q .judged))
+        ∙ sym (q .replied))

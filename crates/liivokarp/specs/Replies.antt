@@ -38,3 +38,16 @@ pub data Assembles (bytes chain₀ : List ℕ) (r : Reply) (chain : List ℕ) : 
   assembled : (sheet : Sheet) → reading bytes ≡ accepted sheet → candidates-of sheet ≤ length chain₀
       → (c : List ℕ) → Best (steps sheet) (end-number sheet) c → r ≡ done (total (steps sheet) c) (length c) → chain ≡ c ++ drop (length c) chain₀
       → Assembles bytes chain₀ r chain
+
+-- Scoring a lent chain: no buffer changes, and neither 8 nor 9 is given.
+pub data ScoresChain (bytes chain : List ℕ) (r : Reply) : Type 0 where
+  -- 1 to 7
+  its-sheet-refused : (number place : ℕ) → reading bytes ≡ refused number place → r ≡ refusal number place → ScoresChain bytes chain r
+  -- 10: the list is no chain
+  no-chain : (sheet : Sheet) → reading bytes ≡ accepted sheet → (Chain (end-number sheet) chain → ⊥) → r ≡ refusal 10 0 → ScoresChain bytes chain r
+  -- 11: it breaks the model, first at this step
+  breaks : (sheet : Sheet) → reading bytes ≡ accepted sheet → Chain (end-number sheet) chain
+      → (step : ℕ) → FirstBad (steps sheet) chain step → r ≡ refusal 11 step → ScoresChain bytes chain r
+  -- 0: it is valid
+  scored : (sheet : Sheet) → reading bytes ≡ accepted sheet → Valid (steps sheet) (end-number sheet) chain
+      → r ≡ done (total (steps sheet) chain) (length chain) → ScoresChain bytes chain r

@@ -4,12 +4,16 @@
 ghost use mathlib.Core.Path.{_≡_};
 ghost use Prim.Native.Nat.{_+_, _≤_};
 ghost use lib.ListN.{length};
+ghost use Rattle.gaze.specs.Chain.{Judged};
 ghost use Rattle.gaze.specs.Sheet.{Sheet, end-number};
 ghost use Rattle.gaze.specs.Step.{steps};
 ghost use Rattle.chains.specs.Answer.{Answers};
-ghost use Rattle.liivokarp.specs.Replies.{refusal, done, Assembles};
-ghost use Rattle.liivokarp.specs.Held.{HeldSheet, HoldsSheet, found-reply};
+ghost use Rattle.liivokarp.specs.Replies.{refusal, done, Assembles, ScoresChain};
+ghost use Rattle.liivokarp.specs.Held.{HeldSheet, HoldsSheet, Ready, found-reply, verdict-reply};
 use chains::Found;
+use engine::Prepared;
+use engine::lent::judge;
+use gaze::Verdict;
 use sheet::Columns;
 
 #[repr(C)]
@@ -42,12 +46,12 @@ fn done(score: i64, count: usize) -> Reply
     }
 }
 
-// The best chain of the sheet that the columns hold, written into the front of `chain`.
-fn best_of(columns: Columns, chain: &mut [u32]) -> Found
-    requires { ⌜ HeldSheet columns ⌝ ∗ ⌜ columns .features + 2 ≤ length (now chain) ⌝ }
-    ensures { λ r. ⌜ ((sheet : Sheet) → HoldsSheet sheet columns → Answers (steps sheet) (end-number sheet) (now (chain .entry)) r (now (chain .exit))) ⌝ }
+// The tables that the engine makes of the sheet that the columns hold.
+fn tables_of(columns: Columns) -> Prepared
+    requires { ⌜ HeldSheet columns ⌝ }
+    ensures { λ r. ⌜ ((sheet : Sheet) → HoldsSheet sheet columns → Ready sheet columns r) ⌝ }
 {
-    let tables = engine::prepare(
+    engine::prepare(
         &columns.function,
         columns.points,
         &columns.rule,
@@ -59,7 +63,15 @@ fn best_of(columns: Columns, chain: &mut [u32]) -> Found
         &columns.end,
         &columns.segment_score,
         columns.segments,
-    );
+    )
+}
+
+// The best chain of the sheet that the columns hold, written into the front of `chain`.
+fn best_of(columns: Columns, chain: &mut [u32]) -> Found
+    requires { ⌜ HeldSheet columns ⌝ ∗ ⌜ columns .features + 2 ≤ length (now chain) ⌝ }
+    ensures { λ r. ⌜ ((sheet : Sheet) → HoldsSheet sheet columns → Answers (steps sheet) (end-number sheet) (now (chain .entry)) r (now (chain .exit))) ⌝ }
+{
+    let tables = tables_of(columns);
     engine::best_chain(
         &columns.kind,
         &columns.position,
@@ -96,4 +108,46 @@ pub extern "C" fn lk_assemble(sheet: &[u8], chain: &mut [u32]) -> Reply
         return refusal(8, 0);
     }
     found_reply(best_of(columns, chain))
+}
+
+// What is said of a list that is sent in as a chain of the sheet that the columns hold.
+fn verdict_of(columns: Columns, chain: &[u32]) -> Verdict
+    requires { ⌜ HeldSheet columns ⌝ }
+    ensures { λ r. ⌜ ((sheet : Sheet) → HoldsSheet sheet columns → Judged (steps sheet) (end-number sheet) (now (chain .entry)) r) ⌝ }
+{
+    let tables = tables_of(columns);
+    judge(
+        &columns.kind,
+        &columns.position,
+        &columns.score,
+        &columns.rule,
+        &columns.distance,
+        &columns.penalty,
+        &columns.qualifier,
+        tables,
+        columns.features + 2,
+        chain,
+    )
+}
+
+fn verdict_reply(verdict: Verdict, count: usize) -> Reply
+    ensures { λ r. ⌜ r ≡ verdict-reply verdict count ⌝ }
+{
+    match verdict {
+        Verdict::NoChain => refusal(10, 0),
+        Verdict::Breaks(step) => refusal(11, step as u64),
+        Verdict::Scores(score) => done(score, count),
+    }
+}
+
+// The score of a chain that is lent, or why it has none.
+#[no_mangle]
+pub extern "C" fn lk_score_chain(sheet: &[u8], chain: &[u32]) -> Reply
+    ensures { λ r. ⌜ ScoresChain (now (sheet .entry)) (now (chain .entry)) r ⌝ }
+{
+    let columns = sheet::read(sheet);
+    if columns.number != 0 {
+        return refusal(columns.number, columns.place);
+    }
+    verdict_reply(verdict_of(columns, chain), chain.len())
 }
