@@ -89,7 +89,9 @@ def check(path):
 
 def main():
     parser = argparse.ArgumentParser(
-        description=__doc__, formatter_class=argparse.RawDescriptionHelpFormatter, usage=argparse.SUPPRESS
+        description=__doc__,
+        formatter_class=argparse.RawDescriptionHelpFormatter,
+        usage=argparse.SUPPRESS,
     )
     parser.add_argument("--check", action="store_true", help="look at T lines, print no sheet")
     parser.add_argument("sheets", metavar="SHEET", nargs="*")

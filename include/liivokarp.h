@@ -1,21 +1,22 @@
 /*
  * liivokarp.h: the gene structure assembler as a C library.
  *
- * Link target/staticlib/libliivokarp.a, on x86-64. A sheet is text; docs/SHEETS.md explains its lines and
- * what to do about each refusal.
+ * Link target/staticlib/libliivokarp.a, on x86-64. A sheet is text; docs/SHEETS.md explains its
+ * lines and what to do about each refusal.
  *
  * What every function here keeps to:
  *
  * - Every input gets a reply. There is nothing to initialise, to free or to check before a call.
- * - What is passed by pointer is lent until the function returns. Nothing keeps a pointer afterwards.
- * - Only the chain buffer of lk_assemble is written, and only when the reply's number is LK_DONE. On a
- *   refusal no buffer changes.
+ * - What is passed by pointer is lent until the function returns. No pointer is kept.
+ * - Only the chain buffer of lk_assemble is written, and only when the reply's number is LK_DONE.
+ *   On a refusal no buffer changes.
  * - With a length of 0 the pointer beside it is not followed, whatever it is.
- * - A length must not be larger than what the pointer points to, and the chain buffer must not overlap the
- *   sheet. Nothing else is required.
- * - There is no global state: calls may run on several threads at once, as long as no thread writes to
- *   what another has lent.
- * - A call takes less than 2 MB of stack and no other memory. Threads with a smaller stack need a larger one.
+ * - A length must not be larger than what the pointer points to, and the chain buffer must not
+ *   overlap the sheet. Nothing else is required.
+ * - There is no global state: calls may run on several threads at once, as long as no thread
+ *   writes to what another has lent.
+ * - A call takes less than 2 MB of stack and no other memory. A thread with a smaller stack must
+ *   be given a larger one.
  */
 
 #ifndef LIIVOKARP_H
@@ -29,24 +30,36 @@ extern "C" {
 #endif
 
 /*
- * What a reply's number says. What its place says stands behind each: where there is none it is 0.
+ * What a reply's number says, and what its place says. A place that is not named is 0.
  *
- * A byte offset is counted from 0 at the start of the sheet and is that of the line's first byte. For
- * lk_region_score a place is the number of a record, counted from 1, and 0 means the region itself.
+ * An offset is that of the first byte of a line of the sheet, counted from 0. For lk_region_score
+ * a place is the number of a record, counted from 1, and 0 means the region itself.
  */
 enum lk_number {
-    LK_DONE = 0,             /* the answer is there */
-    LK_SHEET_SIZE = 1,       /* the sheet is empty or has more than 65,536 bytes */
-    LK_TRAILER = 2,          /* the last byte is no line feed, or the last line is no T line that fits the sheet */
-    LK_MALFORMED = 3,        /* a line is malformed or in the wrong group; byte offset */
-    LK_OUT_OF_RANGE = 4,     /* a field is outside its range; byte offset, or record */
-    LK_OUT_OF_ORDER = 5,     /* a line or record does not stand after the one before it; byte offset, or record */
-    LK_WITHOUT_PARTNER = 6,  /* a Q line without its rule, or a rule whose function has no point; byte offset */
-    LK_BEYOND_MOST = 7,      /* one line or record too many; byte offset, or record */
-    LK_SHORT_BUFFER = 8,     /* the chain buffer has fewer entries than the sheet has candidates */
-    LK_NO_VALID_CHAIN = 9,   /* the model allows no structure on this sheet */
-    LK_NOT_A_CHAIN = 10,     /* the list sent in does not rise from 0 to the last candidate */
-    LK_BREAKS_MODEL = 11     /* the chain sent in has a step that the model forbids; that step, from 1 */
+    /* The answer is there. */
+    LK_DONE = 0,
+    /* The sheet is empty or has more than 65,536 bytes. */
+    LK_SHEET_SIZE = 1,
+    /* The last byte is no line feed, or the last line is no T line that fits the sheet. */
+    LK_TRAILER = 2,
+    /* A line is malformed, or not of its group's letter. Place: its offset. */
+    LK_MALFORMED = 3,
+    /* A field is outside its range. Place: offset of its line, or its record. */
+    LK_OUT_OF_RANGE = 4,
+    /* Not strictly after the one before it. Place: offset of the line, or the record. */
+    LK_OUT_OF_ORDER = 5,
+    /* A Q line without its rule, or a rule whose function has no point. Place: its offset. */
+    LK_WITHOUT_PARTNER = 6,
+    /* One more than there may be. Place: offset of the line, or the record. */
+    LK_BEYOND_MOST = 7,
+    /* The chain buffer has fewer entries than the sheet has candidates. */
+    LK_SHORT_BUFFER = 8,
+    /* The model allows no structure on this sheet. */
+    LK_NO_VALID_CHAIN = 9,
+    /* The list sent in does not rise from 0 to the last candidate. */
+    LK_NOT_A_CHAIN = 10,
+    /* The model forbids a step of the chain sent in. Place: the first such step, from 1. */
+    LK_BREAKS_MODEL = 11
 };
 
 enum {
@@ -57,8 +70,8 @@ enum {
 };
 
 /*
- * What every function returns. When number is not LK_DONE, score and count are 0.
- * Scores are thousandths.
+ * What every function returns. Scores are thousandths. When number is not LK_DONE, score and
+ * count are 0.
  */
 struct lk_reply {
     uint64_t number;
@@ -67,7 +80,7 @@ struct lk_reply {
     uint64_t count;
 };
 
-/* A segment as a record, with the fields of an S line: type 0..15, first base, last base, score. */
+/* A segment as a record, as an S line has it: type 0..15, first base, last base, score. */
 struct lk_segment {
     uint32_t kind;
     uint32_t start;
@@ -76,8 +89,8 @@ struct lk_segment {
 };
 
 /*
- * A region from base source to base target, both included, and what a Q line asks about it: segment
- * type 0..15, method 1 or 2, phase 0..3, match 0..3.
+ * A region from base source to base target, both included, and what a Q line asks about it:
+ * segment type 0..15, method 1 or 2, phase 0..3, match 0..3.
  */
 struct lk_region {
     uint32_t source;
@@ -91,14 +104,15 @@ struct lk_region {
 /*
  * The best structure of a sheet.
  *
- * On LK_DONE the first count entries of chain are candidate numbers, rising from 0 (BEGIN) to n + 1
- * (END), where n is the number of F lines and candidate k between is the k-th F line; score is the
- * chain's score. Entries behind them stay as they were. The buffer must have n + 2 entries, however
- * long the chain is; LK_MOST_CANDIDATES always do.
+ * On LK_DONE the first count entries of chain are candidate numbers, rising from 0 (BEGIN) to
+ * n + 1 (END), where n is the number of F lines and candidate k between is the k-th F line; score
+ * is the chain's score. Entries behind them stay as they were. The buffer must have n + 2
+ * entries, however long the chain is; LK_MOST_CANDIDATES always suffice.
  *
  * Numbers: LK_DONE to LK_NO_VALID_CHAIN.
  */
-struct lk_reply lk_assemble(const uint8_t *sheet, size_t sheet_length, uint32_t *chain, size_t chain_length);
+struct lk_reply lk_assemble(const uint8_t *sheet, size_t sheet_length,
+                            uint32_t *chain, size_t chain_length);
 
 /*
  * The score of a chain sent in: a list of candidate numbers as lk_assemble writes it.
@@ -107,17 +121,19 @@ struct lk_reply lk_assemble(const uint8_t *sheet, size_t sheet_length, uint32_t 
  *
  * Numbers: LK_DONE to LK_BEYOND_MOST, LK_NOT_A_CHAIN, LK_BREAKS_MODEL.
  */
-struct lk_reply lk_score_chain(const uint8_t *sheet, size_t sheet_length, const uint32_t *chain, size_t chain_length);
+struct lk_reply lk_score_chain(const uint8_t *sheet, size_t sheet_length,
+                               const uint32_t *chain, size_t chain_length);
 
 /*
- * The segment score of one region over records, as a Q line would have it over the S lines of a sheet.
+ * The segment score of one region over records, as a Q line has it over the S lines of a sheet.
  * Records stand in the order of S lines: by start, then end, then kind, no two with the same three.
  *
  * On LK_DONE score is the region's score and count is 0. Nothing is written.
  *
  * Numbers: LK_DONE, LK_OUT_OF_RANGE, LK_OUT_OF_ORDER, LK_BEYOND_MOST.
  */
-struct lk_reply lk_region_score(struct lk_region region, const struct lk_segment *records, size_t records_length);
+struct lk_reply lk_region_score(struct lk_region region,
+                                const struct lk_segment *records, size_t records_length);
 
 #ifdef __cplusplus
 }

@@ -9,7 +9,7 @@
 
 #include "liivokarp.h"
 
-/* What the number of a refusal means, as the end of a sentence about the sheet. */
+/* What the number of a refusal means. */
 static const char *meaning_of(uint64_t number)
 {
     switch (number) {
@@ -17,9 +17,9 @@ static const char *meaning_of(uint64_t number)
     case LK_TRAILER: return "the last line is no T line that fits the sheet";
     case LK_MALFORMED: return "a line is malformed, or not of its group's letter";
     case LK_OUT_OF_RANGE: return "a field is outside its range";
-    case LK_OUT_OF_ORDER: return "not after the one before it";
-    case LK_WITHOUT_PARTNER: return "a Q line without its rule, or a rule whose function has no point";
-    case LK_BEYOND_MOST: return "one more than its group may have";
+    case LK_OUT_OF_ORDER: return "a line or record does not stand after the one before it";
+    case LK_WITHOUT_PARTNER: return "a Q line without its rule, or a rule without its points";
+    case LK_BEYOND_MOST: return "one line or record more than there may be";
     case LK_SHORT_BUFFER: return "the chain buffer has fewer entries than the sheet has candidates";
     case LK_NO_VALID_CHAIN: return "the model allows no structure on this sheet";
     case LK_NOT_A_CHAIN: return "the list does not rise from 0 to the last candidate";
@@ -28,7 +28,7 @@ static const char *meaning_of(uint64_t number)
     }
 }
 
-/* Whether the place of such a refusal of a sheet is the offset of a line. */
+/* Whether the place of such a refusal of a sheet is a line's offset. */
 static int has_line(uint64_t number)
 {
     return LK_MALFORMED <= number && number <= LK_BEYOND_MOST;
@@ -69,8 +69,8 @@ static const char *next_line(const char *line)
 }
 
 /*
- * Prints the chain. Its numbers rise, so one walk over the F lines, of which candidate k is the k-th, finds
- * them all. Only called for a sheet that has been accepted.
+ * Prints the chain of a sheet that has been accepted. Candidate k is the k-th F line, and the
+ * chain rises, so one walk over the F lines finds them all.
  */
 static void print_structure(const char *sheet, struct lk_reply reply, const uint32_t *chain)
 {
@@ -102,7 +102,7 @@ static size_t read_segments(const char *sheet, struct lk_segment *records)
     return count;
 }
 
-/* The first record's own region, as a Q line of its type with method 1, any phase and no match scores it. */
+/* The region of the first record, by a Q line of its type: method 1, any phase, no match. */
 static void score_first_region(const struct lk_segment *records, size_t count)
 {
     struct lk_region region = {records[0].start, records[0].end, records[0].kind, 1, 3, 0};
@@ -145,7 +145,8 @@ int main(int count, char **arguments)
         perror(arguments[1]);
         return 2;
     }
-    struct lk_reply reply = lk_assemble((const uint8_t *)sheet, (size_t)length, chain, LK_MOST_CANDIDATES);
+    struct lk_reply reply =
+        lk_assemble((const uint8_t *)sheet, (size_t)length, chain, LK_MOST_CANDIDATES);
     if (reply.number != LK_DONE) {
         print_refusal(sheet, reply);
         return 1;

@@ -2,7 +2,7 @@
 
 use peer::chains::{score_of_lent_chain, Best};
 use peer::reply::{Refusal, BREAKS_MODEL};
-use peer::sheet::{self, Feature, Segment, Sheet};
+use peer::sheet::{self, Feature, Interruption, Rule, Segment, Sheet, BEGIN_KIND, END_KIND};
 use peer::tuned;
 use std::fs;
 use std::path::Path;
@@ -53,6 +53,46 @@ fn without_segments(sheet: &Sheet, unwanted: impl Fn(&Segment) -> bool) -> Sheet
     let mut changed = sheet.clone();
     changed.segments.retain(|segment| !unwanted(segment));
     changed
+}
+
+/// The same site on the other strand, or the other end of the sequence.
+fn twin(kind: u32) -> u32 {
+    match kind {
+        BEGIN_KIND => END_KIND,
+        END_KIND => BEGIN_KIND,
+        2..=16 => kind + 15,
+        _ => kind - 15,
+    }
+}
+
+fn mirrored(rule: &Rule) -> Rule {
+    let interruption = match rule.interruption {
+        Interruption::None => Interruption::None,
+        Interruption::FromSource { kind, remainder } => Interruption::FromTarget {
+            kind: twin(kind),
+            remainder,
+        },
+        Interruption::FromTarget { kind, remainder } => Interruption::FromSource {
+            kind: twin(kind),
+            remainder,
+        },
+    };
+    Rule {
+        source: twin(rule.target),
+        target: twin(rule.source),
+        interruption,
+        ..*rule
+    }
+}
+
+#[test]
+fn the_reverse_strand_is_the_mirror() {
+    for name in ["standard.txt", "trans_splicing.txt", "est.txt"] {
+        let sheet = example(name);
+        for rule in &sheet.rules {
+            assert!(sheet.rules.contains(&mirrored(rule)), "{name}: {rule:?}");
+        }
+    }
 }
 
 #[test]
