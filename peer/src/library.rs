@@ -11,23 +11,23 @@ mod functions {
     extern "C" {
         pub fn lk_assemble(
             sheet: *const u8,
-            sheet_len: usize,
+            sheet_length: usize,
             chain: *mut u32,
-            chain_len: usize,
+            chain_length: usize,
         ) -> Reply;
 
         pub fn lk_score_chain(
             sheet: *const u8,
-            sheet_len: usize,
+            sheet_length: usize,
             chain: *const u32,
-            chain_len: usize,
+            chain_length: usize,
         ) -> Reply;
 
         #[cfg(feature = "records")]
         pub fn lk_region_score(
             region: Region,
             records: *const Segment,
-            records_len: usize,
+            records_length: usize,
         ) -> Reply;
     }
 }

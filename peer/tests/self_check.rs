@@ -242,9 +242,11 @@ fn most_features() {
     assert_refused(&with_right_trailer(&lines), 7, place as u64);
 }
 
-#[test]
-fn sheets_with_answers() {
-    let folder = Path::new(env!("CARGO_MANIFEST_DIR")).join("../sheets");
+/// The number of sheets in a folder beside this package, each of which gets the answer beside it.
+fn count_answered(folder: &str) -> usize {
+    let folder = Path::new(env!("CARGO_MANIFEST_DIR"))
+        .join("..")
+        .join(folder);
     let mut count = 0;
     for entry in fs::read_dir(folder).expect("the folder of sheets") {
         let path = entry.expect("an entry").path();
@@ -255,7 +257,17 @@ fn sheets_with_answers() {
             count += 1;
         }
     }
-    assert_eq!(count, 15);
+    count
+}
+
+#[test]
+fn sheets_with_answers() {
+    assert_eq!(count_answered("sheets"), 15);
+}
+
+#[test]
+fn examples_with_answers() {
+    assert_eq!(count_answered("examples"), 3);
 }
 
 #[test]
