@@ -1,3 +1,4 @@
 pub mod Turns
 pub mod Grouped
 pub mod Preparing
+pub mod Summing
