@@ -1,39 +1,38 @@
 -- A sheet's tables: what each asks of the sheet's columns, and that together they are its model.
 use mathlib.Core.Path.{_≡_, refl, sym, ap, _∙_, subst}
 use mathlib.Core.Logic.{⊎-elim}
-use mathlib.Core.Bool.{true, false}
+use mathlib.Core.Bool.{Bool, false}
 use mathlib.Core.List.{List}
 use Prim.Native.Nat.{ℕ, _-_, _≤_, _<_}
 use native.Mathlib.Omega.{arith}
+use borrow.Author.Tests.{le-leb}
 use lib.IntN.{ℤ}
-use lib.ListN.{length, replicate, length-replicate, getD-replicate}
+use lib.ListN.{length}
 use Rattle.gaze.specs.declared.Point.{Point}
 use Rattle.gaze.specs.declared.Rule.{Rule}
-use Rattle.gaze.specs.declared.Qualifier.{Qualifier}
 use Rattle.gaze.specs.Lists.{Each, listed}
 use Rattle.gaze.specs.Sheet.{Sheet, end-number}
 use Rattle.gaze.specs.Penalty.{penalty}
-use Rattle.gaze.specs.Ranges.{SourceType, PointRanges, RuleRanges, QualifierRanges, point-keys, Group}
-use Rattle.gaze.specs.Columns.{point-at, rule-at, Candidates, Scores, Points}
-use Rattle.gaze.proofs.ListLaws.{each-map, listed-each}
+use Rattle.gaze.specs.Ranges.{SourceType, PointRanges, RuleRanges, point-keys, Group}
+use Rattle.gaze.specs.Columns.{point-at, rule-at, qualifier-at, Candidates, Scores, Points}
+use Rattle.gaze.proofs.ListLaws.{each-listed, listed-each}
 use Rattle.sorted.specs.Sorted.{FirstRows}
 use Rattle.penalty.specs.Intron.{IntronTable}
 use Rattle.penalty.specs.Rows.{PointColumns}
 use Rattle.penalty.proofs.FromSheet.{sheet-curves, sheet-penalty}
 use Rattle.rules.specs.Tables.{Typed, Indexed}
 use Rattle.lines.specs.Lines.{Holds, LinesAt}
-use Rattle.slots.proofs.Classes.{slot-low}
+use Rattle.lines.proofs.Pairs.{lines-are}
+use Rattle.sums.proofs.Pairs.{running-none}
 use Rattle.regions.specs.Evidence.{Marked}
 use Rattle.costs.specs.Rows.{Penalties}
+use Rattle.engine.specs.Asked.{Marks}
 use Rattle.engine.specs.declared.Prepared.{Prepared}
 use Rattle.engine.specs.Prepared.{SegmentColumns, SlottedFor, Parts, PreparedFor, ReadyFor}
 
 -- BEGIN's type is 0, the others' are at most 31
 source-low : {x : ℕ} → SourceType x → x ≤ 31
 source-low s = ⊎-elim (λ e. omega arith) (λ w. let h = w .1 in omega arith) s
-
-all-marked : (q : Qualifier) → QualifierRanges q → Marked (replicate 64 true) q
-all-marked q r m t = getD-replicate 64 _ true false (slot-low (q .kind) (q .phase) t (r .kind))
 
 module _ {sheet : Sheet} {functions : List ℕ} {points : ℕ} {rules : List ℕ} {ruled : ℕ} {lines : List ℕ} {lined : ℕ} {kinds starts ends : List ℕ} {scores : List ℤ} {count : ℕ}
     (p : Parts sheet functions points rules ruled lines lined kinds starts ends scores count) where
@@ -74,6 +73,12 @@ module _ {sheet : Sheet} {functions : List ℕ} {points : ℕ} {rules : List ℕ
   pub lines-hold : Holds (sheet .qualifiers) lines lined
   lines-hold = record { held = p .lines-held; all = p .lines-all; group = p .ranged .qualifiers }
 
+  -- a line that has its slots marked where it asks for them has them narrowed
+  lines-marked : (used : List Bool) → Marks false lines lined used → Each (Marked used) (sheet .qualifiers)
+  lines-marked used m =
+      subst (Each (Marked used)) (sym (lines-are (sheet .qualifiers) lines lined lines-hold))
+      (each-listed (Marked used) (qualifier-at lines) 0 lined (λ k l u far. m k (omega arith) (le-leb 2 (qualifier-at lines k .matching) far)))
+
   pub segment-columns : SegmentColumns (sheet .segments) kinds starts ends scores count
   segment-columns =
       record {
@@ -85,8 +90,9 @@ module _ {sheet : Sheet} {functions : List ℕ} {points : ℕ} {rules : List ℕ
       }
 
   pub prepared-for : (r : Prepared) → Indexed rules 0 ruled (r .table) → (length (r .first) ≡ 18) × FirstRows functions points (r .first) → IntronTable (r .intron)
-      → LinesAt (sheet .qualifiers) lines (r .pairs) → SlottedFor (sheet .segments) (r .segments) → PreparedFor sheet functions rules lines r
-  prepared-for r table first intron pairs segments =
+      → LinesAt (sheet .qualifiers) lines (r .pairs) → SlottedFor (sheet .segments) (r .segments)
+      → Marks false lines lined (r .used) → 64 ≤ length (r .used) → PreparedFor sheet functions rules lines r
+  prepared-for r table first intron pairs segments used used-long =
       record {
         model = λ own-kinds positions own-scores distances penalties candidates own held.
             record {
@@ -105,8 +111,9 @@ module _ {sheet : Sheet} {functions : List ℕ} {points : ℕ} {rules : List ℕ
               slots = segments .slots;
               columns = segments .columns;
               all = segments .all;
-              marked = each-map QualifierRanges (Marked (replicate 64 true)) (sheet .qualifiers) all-marked (p .ranged .qualifiers .each);
-              used-long = omega (arith, length-replicate 64 true);
+              marked = lines-marked (r .used) used;
+              used-long = used-long;
+              running = running-none;
             };
       }
 

@@ -27,8 +27,8 @@ use Rattle.step.specs.Model.{Model, Target, StepRows}
 use Rattle.engine.specs.Search.{StepIs}
 
 module _ {kinds positions : List ℕ} {scores : List ℤ} {rows table distances : List ℕ} {penalties : List ℤ} {first : List ℕ} {intron : List ℤ}
-    {lines lines-at at starts ends : List ℕ} {worths rates : List ℤ} {size : ℕ} {used : List Bool} {t : ℕ}
-    (p : Target kinds positions scores rows table distances penalties first intron lines lines-at at starts ends worths rates size used t) where
+    {lines lines-at at starts ends : List ℕ} {worths rates : List ℤ} {size : ℕ} {used summed : List Bool} {sums : List ℤ} {t : ℕ}
+    (p : Target kinds positions scores rows table distances penalties first intron lines lines-at at starts ends worths rates size used summed sums t) where
   pub target-low : t ≤ 1025
   target-low = omega (arith, p .to-end, p .model .costs .legality .ranged .features .few)
 

@@ -1,7 +1,7 @@
 -- A sheet in the reader's columns, and the tables that are made of them once.
 use mathlib.Core.Path.{_≡_}
-use mathlib.Core.Bool.{true}
-use mathlib.Core.List.{List}
+use mathlib.Core.Bool.{false}
+use mathlib.Core.List.{List, []}
 use Prim.Native.Nat.{ℕ, suc, _≤_}
 use lib.IntN.{ℤ}
 use lib.ListN.{length, replicate}
@@ -53,17 +53,17 @@ pub record SomeSheet (functions : List ℕ) (points : ℕ) (rules : List ℕ) (r
   pub sheet : Sheet
   pub parts : Parts sheet functions points rules ruled lines lined kinds starts ends scores count
 
--- With the sheet's other columns the tables are its model.
+-- With the sheet's other columns the tables are its model, without running sums: those are made of the positions.
 pub record PreparedFor (sheet : Sheet) (functions rules lines : List ℕ) (r : Prepared) : Type 0 where
   pub model : (kinds positions : List ℕ) (scores : List ℤ) (distances : List ℕ) (penalties : List ℤ) → Candidates sheet kinds positions → Scores sheet scores
       → Points (sheet .points) functions distances penalties
       → Model sheet kinds positions scores rules (r .table) distances penalties (r .first) (r .intron) lines (r .pairs)
-      (r .segments .at) (r .segments .start) (r .segments .end) (r .segments .score) (r .segments .rate) (r .segments .total) (replicate 64 true)
+      (r .segments .at) (r .segments .start) (r .segments .end) (r .segments .score) (r .segments .rate) (r .segments .total) (r .used) (replicate 64 false) []
 
--- The columns and the tables hold the sheet, which has n candidates.
+-- The columns and the tables hold the sheet, which has n candidates; running sums are still to be made.
 pub record ReadyFor (sheet : Sheet) (kinds positions : List ℕ) (scores : List ℤ) (rules distances : List ℕ) (penalties : List ℤ) (lines : List ℕ) (tables : Prepared) (n : ℕ) : Type 0 where
   pub model : Model sheet kinds positions scores rules (tables .table) distances penalties (tables .first) (tables .intron) lines (tables .pairs)
-      (tables .segments .at) (tables .segments .start) (tables .segments .end) (tables .segments .score) (tables .segments .rate) (tables .segments .total) (replicate 64 true)
+      (tables .segments .at) (tables .segments .start) (tables .segments .end) (tables .segments .score) (tables .segments .rate) (tables .segments .total) (tables .used) (replicate 64 false) []
   pub all : n ≡ suc (end-number sheet)
 
 pub record Ready (kinds positions : List ℕ) (scores : List ℤ) (rules distances : List ℕ) (penalties : List ℤ) (lines : List ℕ) (tables : Prepared) (n : ℕ) : Type 0 where

@@ -13,9 +13,9 @@ use Rattle.step.specs.Model.{Model}
 
 -- Some sheet is held, which has n candidates.
 pub record Held (kinds positions : List ℕ) (scores : List ℤ) (rows table distances : List ℕ) (penalties : List ℤ) (first : List ℕ) (intron : List ℤ)
-    (lines pairs at starts ends : List ℕ) (worths rates : List ℤ) (total : ℕ) (used : List Bool) (n : ℕ) : Type 0 where
+    (lines pairs at starts ends : List ℕ) (worths rates : List ℤ) (total : ℕ) (used summed : List Bool) (sums : List ℤ) (n : ℕ) : Type 0 where
   pub sheet : Sheet
-  pub model : Model sheet kinds positions scores rows table distances penalties first intron lines pairs at starts ends worths rates total used
+  pub model : Model sheet kinds positions scores rows table distances penalties first intron lines pairs at starts ends worths rates total used summed sums
   pub all : n ≡ suc (end-number sheet)
 
 -- The rows and columns of the search have room for n entries.
@@ -33,7 +33,7 @@ pub record StepIs (sheet : Sheet) (s t : ℕ) (allowed : Bool) (gained : ℤ) : 
 
 -- Some sheet is held, and the list is a chain of its candidates.
 pub record Walking (kinds positions : List ℕ) (scores : List ℤ) (rows table distances : List ℕ) (penalties : List ℤ) (first : List ℕ) (intron : List ℤ)
-    (lines pairs at starts ends : List ℕ) (worths rates : List ℤ) (total : ℕ) (used : List Bool) (chain : List ℕ) : Type 0 where
+    (lines pairs at starts ends : List ℕ) (worths rates : List ℤ) (total : ℕ) (used summed : List Bool) (sums : List ℤ) (chain : List ℕ) : Type 0 where
   pub sheet : Sheet
-  pub model : Model sheet kinds positions scores rows table distances penalties first intron lines pairs at starts ends worths rates total used
+  pub model : Model sheet kinds positions scores rows table distances penalties first intron lines pairs at starts ends worths rates total used summed sums
   pub is-chain : Chain (end-number sheet) chain

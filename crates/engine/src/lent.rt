@@ -37,11 +37,13 @@ fn step_of<'a>(
     rate: &'a [i64],
     total: usize,
     used: &'a [bool],
+    summed: &'a [bool],
+    sums: &'a [i64],
     s: usize,
     t: usize,
 ) -> Taken
-    requires { ⌜ Target (now kind) (now position) (now score) (now rules) (now table) (now distance) (now penalty) (now first) (now intron) (now lines) (now pairs) (now at) (now start) (now end) (now worth) (now rate) total (now used) t ⌝ ∗ ⌜ s < t ⌝ }
-    ensures { λ r. ⌜ ((sheet : Sheet) → Model sheet (now (kind .entry)) (now (position .entry)) (now (score .entry)) (now (rules .entry)) (now (table .entry)) (now (distance .entry)) (now (penalty .entry)) (now (first .entry)) (now (intron .entry)) (now (lines .entry)) (now (pairs .entry)) (now (at .entry)) (now (start .entry)) (now (end .entry)) (now (worth .entry)) (now (rate .entry)) total (now (used .entry)) → t ≤ end-number sheet → StepIs sheet s t (r .legal) (r .gain)) ⌝ }
+    requires { ⌜ Target (now kind) (now position) (now score) (now rules) (now table) (now distance) (now penalty) (now first) (now intron) (now lines) (now pairs) (now at) (now start) (now end) (now worth) (now rate) total (now used) (now summed) (now sums) t ⌝ ∗ ⌜ s < t ⌝ }
+    ensures { λ r. ⌜ ((sheet : Sheet) → Model sheet (now (kind .entry)) (now (position .entry)) (now (score .entry)) (now (rules .entry)) (now (table .entry)) (now (distance .entry)) (now (penalty .entry)) (now (first .entry)) (now (intron .entry)) (now (lines .entry)) (now (pairs .entry)) (now (at .entry)) (now (start .entry)) (now (end .entry)) (now (worth .entry)) (now (rate .entry)) total (now (used .entry)) (now (summed .entry)) (now (sums .entry)) → t ≤ end-number sheet → StepIs sheet s t (r .legal) (r .gain)) ⌝ }
 {
     let mut bounds = [0usize; 65];
     let mut starts = [0u32; 2048];
@@ -69,6 +71,8 @@ fn step_of<'a>(
         rate,
         total,
         used,
+        summed,
+        sums,
         t,
         s,
         s + 1,
@@ -108,10 +112,12 @@ fn walk<'a>(
     rate: &'a [i64],
     total: usize,
     used: &'a [bool],
+    summed: &'a [bool],
+    sums: &'a [i64],
     chain: &'a [u32],
 ) -> Verdict
-    requires { ⌜ Walking (now kind) (now position) (now score) (now rules) (now table) (now distance) (now penalty) (now first) (now intron) (now lines) (now pairs) (now at) (now start) (now end) (now worth) (now rate) total (now used) (now chain) ⌝ }
-    ensures { λ r. ⌜ ((sheet : Sheet) → Model sheet (now (kind .entry)) (now (position .entry)) (now (score .entry)) (now (rules .entry)) (now (table .entry)) (now (distance .entry)) (now (penalty .entry)) (now (first .entry)) (now (intron .entry)) (now (lines .entry)) (now (pairs .entry)) (now (at .entry)) (now (start .entry)) (now (end .entry)) (now (worth .entry)) (now (rate .entry)) total (now (used .entry)) → Chain (end-number sheet) (now (chain .entry)) → Judged (steps sheet) (end-number sheet) (now (chain .entry)) r) ⌝ }
+    requires { ⌜ Walking (now kind) (now position) (now score) (now rules) (now table) (now distance) (now penalty) (now first) (now intron) (now lines) (now pairs) (now at) (now start) (now end) (now worth) (now rate) total (now used) (now summed) (now sums) (now chain) ⌝ }
+    ensures { λ r. ⌜ ((sheet : Sheet) → Model sheet (now (kind .entry)) (now (position .entry)) (now (score .entry)) (now (rules .entry)) (now (table .entry)) (now (distance .entry)) (now (penalty .entry)) (now (first .entry)) (now (intron .entry)) (now (lines .entry)) (now (pairs .entry)) (now (at .entry)) (now (start .entry)) (now (end .entry)) (now (worth .entry)) (now (rate .entry)) total (now (used .entry)) (now (summed .entry)) (now (sums .entry)) → Chain (end-number sheet) (now (chain .entry)) → Judged (steps sheet) (end-number sheet) (now (chain .entry)) r) ⌝ }
 {
     let mut sum: i64 = 0;
     let mut k = 1;
@@ -135,6 +141,8 @@ fn walk<'a>(
             rate,
             total,
             used,
+            summed,
+            sums,
             chain[k - 1] as usize,
             chain[k] as usize,
         );
@@ -147,7 +155,7 @@ fn walk<'a>(
     Verdict::Scores(sum)
 }
 
-// The verdict on a list that is sent in as a chain of `n` candidates.
+// The verdict on a list that is sent in as a chain of `n` candidates. A chain has few steps, so no running sums are made for it.
 pub fn judge<'a>(
     kind: &'a [u32],
     position: &'a [u32],
@@ -164,7 +172,8 @@ pub fn judge<'a>(
     ensures { λ r. ⌜ ((sheet : Sheet) → ReadyFor sheet (now (kind .entry)) (now (position .entry)) (now (score .entry)) (now (rules .entry)) (now (distance .entry)) (now (penalty .entry)) (now (lines .entry)) tables n → Judged (steps sheet) (end-number sheet) (now (chain .entry)) r) ⌝ }
 {
     if chains::is_chain(n - 1, chain) {
-        let used = [true; 64];
+        let summed = [false; 64];
+        let sums = [0i64; 0];
         return walk(
             kind,
             position,
@@ -183,7 +192,9 @@ pub fn judge<'a>(
             &tables.segments.score,
             &tables.segments.rate,
             tables.segments.total,
-            &used,
+            &tables.used,
+            &summed,
+            &sums,
             chain,
         );
     }

@@ -11,8 +11,11 @@ ghost use mathlib.Core.List.{List};
 ghost use Prim.Native.Nat.{_≤_};
 ghost use lib.ListN.{length};
 ghost use Rattle.gaze.specs.declared.Segment.{Segment};
+ghost use Rattle.lines.specs.Lines.{Held as LinesHeld};
+ghost use Rattle.engine.specs.Asked.{asks-for, OneMore, Marks};
 ghost use Rattle.engine.specs.Search.{Held, Places};
 ghost use Rattle.engine.specs.Prepared.{SegmentColumns, SomeSegments, SlottedFor, Parts, SomeSheet, PreparedFor, ReadyFor, Ready};
+use gaze::Qualifier;
 
 pub mod lent;
 
@@ -63,13 +66,59 @@ fn group_segments<'a>(
     }
 }
 
-// The tables that are made of a sheet's columns once, and lent from then on.
+// ---- the slots that the Q lines ask for
+
+fn asks_for(q: Qualifier, sums: bool) -> bool
+    ensures { λ r. ⌜ r ≡ asks-for sums q ⌝ }
+{
+    let method = q.method;
+    let matching = q.matching;
+    if sums {
+        if method == 2 {
+            return matching == 0;
+        }
+        return false;
+    }
+    2 <= matching
+}
+
+fn mark_line(q: Qualifier, sums: bool, marks: &mut [bool])
+    requires { ⌜ q .kind ≤ 15 ⌝ ∗ ⌜ q .phase ≤ 3 ⌝ ∗ ⌜ 64 ≤ length (now marks) ⌝ }
+    ensures { λ _. ⌜ OneMore sums q (now (marks .entry)) (now (marks .exit)) ⌝ }
+{
+    if asks_for(q, sums) {
+        slots::mark(q.kind, q.phase, marks);
+        return;
+    }
+}
+
+// Of the first `count` Q lines the slots whose running sums they ask for, or else those whose rows that end at the target.
+fn mark_lines(lines: &[u32], count: usize, sums: bool) -> [bool; 64]
+    requires { ⌜ LinesHeld (now lines) count ⌝ }
+    ensures { λ r. ⌜ length r ≡ 64 ⌝ ∗ ⌜ Marks sums (now (lines .entry)) count r ⌝ }
+{
+    let mut marks = [false; 64];
+    let mut k: usize = 0;
+    while k < count {
+        let q = lines::qualifier_at(lines, k);
+        mark_line(q, sums, &mut marks);
+        k += 1;
+    }
+    marks
+}
+
+// ---- a sheet
+
+// The tables that are made of a sheet's columns once, and lent from then on. Of the slots, those that are narrowed to each target, and those whose
+// running sums are made.
 pub struct Prepared {
     pub table: [u32; 1024],
     pub first: [usize; 18],
     pub intron: [i64; 1024],
     pub pairs: [usize; 1025],
     pub segments: Slotted,
+    pub used: [bool; 64],
+    pub summed: [bool; 64],
 }
 
 pub fn prepare<'a>(
@@ -94,6 +143,8 @@ pub fn prepare<'a>(
         intron: penalty::intron_table(),
         pairs: lines::line_table(lines, lined),
         segments: group_segments(kind, start, end, score, count),
+        used: mark_lines(lines, lined, false),
+        summed: mark_lines(lines, lined, true),
     }
 }
 
@@ -117,6 +168,8 @@ fn search<'a>(
     rate: &'a [i64],
     total: usize,
     used: &'a [bool],
+    summed: &'a [bool],
+    sums: &'a [i64],
     n: usize,
     bounds: &mut [usize],
     starts: &mut [u32],
@@ -129,10 +182,10 @@ fn search<'a>(
     value: &mut [i64],
     from: &mut [u32],
 )
-    requires { ⌜ Held (now kind) (now position) (now score) (now rules) (now table) (now distance) (now penalty) (now first) (now intron) (now lines) (now pairs) (now at) (now start) (now end) (now worth) (now rate) total (now used) n ⌝ }
+    requires { ⌜ Held (now kind) (now position) (now score) (now rules) (now table) (now distance) (now penalty) (now first) (now intron) (now lines) (now pairs) (now at) (now start) (now end) (now worth) (now rate) total (now used) (now summed) (now sums) n ⌝ }
     requires { ⌜ Scratch total (now bounds) (now starts) (now ends) (now scores) (now rates) ⌝ ∗ ⌜ Places n (now legal) (now gains) (now reach) (now value) (now from) ⌝ }
     ensures { λ _. ⌜ SameLengths (now (reach .entry)) (now (reach .exit)) (now (value .entry)) (now (value .exit)) (now (from .entry)) (now (from .exit)) ⌝ }
-    ensures { λ _. ⌜ ((sheet : Sheet) → Model sheet (now (kind .entry)) (now (position .entry)) (now (score .entry)) (now (rules .entry)) (now (table .entry)) (now (distance .entry)) (now (penalty .entry)) (now (first .entry)) (now (intron .entry)) (now (lines .entry)) (now (pairs .entry)) (now (at .entry)) (now (start .entry)) (now (end .entry)) (now (worth .entry)) (now (rate .entry)) total (now (used .entry)) → n ≡ suc (end-number sheet) → Searched (steps sheet) n (now (reach .exit)) (now (value .exit)) (now (from .exit))) ⌝ }
+    ensures { λ _. ⌜ ((sheet : Sheet) → Model sheet (now (kind .entry)) (now (position .entry)) (now (score .entry)) (now (rules .entry)) (now (table .entry)) (now (distance .entry)) (now (penalty .entry)) (now (first .entry)) (now (intron .entry)) (now (lines .entry)) (now (pairs .entry)) (now (at .entry)) (now (start .entry)) (now (end .entry)) (now (worth .entry)) (now (rate .entry)) total (now (used .entry)) (now (summed .entry)) (now (sums .entry)) → n ≡ suc (end-number sheet) → Searched (steps sheet) n (now (reach .exit)) (now (value .exit)) (now (from .exit))) ⌝ }
 {
     chains::begin(reach, value, from);
     let mut e = 1;
@@ -156,6 +209,8 @@ fn search<'a>(
             rate,
             total,
             used,
+            summed,
+            sums,
             e,
             0,
             e,
@@ -188,7 +243,18 @@ pub fn best_chain<'a>(
     requires { ⌜ Ready (now kind) (now position) (now score) (now rules) (now distance) (now penalty) (now lines) tables n ⌝ ∗ ⌜ n ≤ length (now chain) ⌝ }
     ensures { λ r. ⌜ ((sheet : Sheet) → ReadyFor sheet (now (kind .entry)) (now (position .entry)) (now (score .entry)) (now (rules .entry)) (now (distance .entry)) (now (penalty .entry)) (now (lines .entry)) tables n → Answers (steps sheet) (end-number sheet) (now (chain .entry)) r (now (chain .exit))) ⌝ }
 {
-    let used = [true; 64];
+    let mut sums = sums::empty_table();
+    sums::fill_table(
+        &tables.segments.at,
+        &tables.segments.start,
+        &tables.segments.end,
+        &tables.segments.rate,
+        tables.segments.total,
+        position,
+        n,
+        &tables.summed,
+        &mut sums,
+    );
     let mut bounds = [0usize; 65];
     let mut starts = [0u32; 2048];
     let mut ends = [0u32; 2048];
@@ -217,7 +283,9 @@ pub fn best_chain<'a>(
         &tables.segments.score,
         &tables.segments.rate,
         tables.segments.total,
-        &used,
+        &tables.used,
+        &tables.summed,
+        &sums,
         n,
         &mut bounds,
         &mut starts,

@@ -24,10 +24,10 @@ source-small x (inl e) = omega arith
 source-small x (inr w) = w .1
 
 module _ (lines : List Qualifier) (rows : List ℕ) (count : ℕ) (h : Holds lines rows count) where
-  lines-are : lines ≡ listed (qualifier-at rows) 0 count
+  pub lines-are : lines ≡ listed (qualifier-at rows) 0 count
   lines-are = h .held .is ∙ ap (listed (qualifier-at rows) 0) (h .all)
 
-  line-ranges : (i : ℕ) → i < count → QualifierRanges (qualifier-at rows i)
+  pub line-ranges : (i : ℕ) → i < count → QualifierRanges (qualifier-at rows i)
   line-ranges = listed-each (qualifier-at rows) count QualifierRanges (subst (Each QualifierRanges) lines-are (h .group .each))
 
   pub source-is : (i : ℕ) → i < count → getD rows (6 * i) 0 ≤ 31

@@ -1,2 +1,3 @@
 pub mod Totals
 pub mod Scores
+pub mod Parts

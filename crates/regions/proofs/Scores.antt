@@ -25,9 +25,10 @@ use Rattle.gaze.proofs.Bounds.{short, segment-score-size}
 use Rattle.rows.specs.Rows.{scored}
 use Rattle.slots.specs.Slots.{slot-of, slot-rows}
 use Rattle.slots.proofs.Lines.{score-any, score-from-source, score-to-target, score-both}
+use Rattle.sums.proofs.Pairs.{pair-is}
 use Rattle.lines.specs.Lines.{of-types, LinesAt}
 use Rattle.lines.specs.Regions.{RegionRow}
-use Rattle.regions.specs.Evidence.{starting, worth, summed, Pair, Marked, Evidence}
+use Rattle.regions.specs.Evidence.{Between, starting, worth, together, Pair, Marked, Evidence}
 
 -- ---- one line, by its match
 below-four : (m : ℕ) → m ≤ 3 → (m ≡ 0) ⊎ ((m ≡ 1) ⊎ ((m ≡ 2) ⊎ (m ≡ 3)))
@@ -39,8 +40,8 @@ below-four m h = ⊎-elim (λ e. inr (inr (inr e))) (λ l. ⊎-elim (λ e. inr (
     zero : {a : ℕ} → a < 1 → a ≡ 0
     zero h = omega arith
 
-module _ {sheet : Sheet} {kinds positions rows first at starts ends : List ℕ} {scores rates : List ℤ} {bounds starts′ ends′ : List ℕ} {scores′ rates′ : List ℤ} {t : ℕ}
-    (h : Evidence sheet kinds positions rows first at starts ends scores rates bounds starts′ ends′ scores′ rates′ t) where
+module _ {sheet : Sheet} {kinds positions rows first at starts ends : List ℕ} {scores rates : List ℤ} {summed : List Bool} {sums : List ℤ}
+    {bounds starts′ ends′ : List ℕ} {scores′ rates′ : List ℤ} {t : ℕ} (h : Evidence sheet kinds positions rows first at starts ends scores rates summed sums bounds starts′ ends′ scores′ rates′ t) where
   abbrev place : ℕ
   place = candidate sheet t .position
 
@@ -98,14 +99,30 @@ module _ {sheet : Sheet} {kinds positions rows first at starts ends : List ℕ} 
     in-lines : (k : ℕ) → k < stops → k < length (sheet .qualifiers)
     in-lines k u = let w = h .table .within (candidate sheet s .kind) (candidate sheet t .kind) source-in target-in in omega arith
 
+    -- the running sums at the two candidates
+    running-between : Between summed at starts ends scores sums s t (candidate sheet s .position) (candidate sheet t .position)
+    running-between =
+        record {
+          long = h .running .long;
+          source-low = omega (arith, h .to-end, h .ranged .features .few);
+          target-low = omega (arith, h .to-end, h .ranged .features .few);
+          room = h .running .room;
+          small = λ k l e. h .running .held k l e .small;
+          is = λ k l e.
+              rw (← h .candidates .position s (omega (arith, h .to-end)), ← h .candidates .position t (h .to-end))
+              (pair-is (h .columns .rated) (h .running .held k l e) k l e (h .columns .ordered k l) (h .columns .within k l) s t (omega (arith, h .to-end)) (omega (arith, h .to-end))
+              (rw (h .candidates .position s (omega (arith, h .to-end)), h .candidates .position t (h .to-end)) (never-falls sheet (h .ranged) s t le (h .to-end))));
+        }
+
     -- what the code asks
-    pub pair-of : Pair (worth at starts ends scores bounds starts′ ends′ scores′ (getD positions s 0) (getD positions t 0)) rows first at starts ends scores rates bounds starts′ ends′ scores′ rates′ (getD kinds s 0) (getD kinds t 0) (getD positions s 0) (getD positions t 0)
+    pub pair-of : Pair (worth at starts ends scores bounds starts′ ends′ scores′ (getD positions s 0) (getD positions t 0)) rows first at starts ends scores rates summed sums bounds starts′ ends′ scores′ rates′ s t (getD kinds s 0) (getD kinds t 0) (getD positions s 0) (getD positions t 0)
     pair-of =
         let a = placed sheet (h .ranged) s in
         let b = placed sheet (h .ranged) t in
         rw (h .candidates .kind s (omega (arith, h .to-end)), h .candidates .kind t (h .to-end), h .candidates .position s (omega (arith, h .to-end)), h .candidates .position t (h .to-end))
         (record {
           columns = h .columns;
+          between = running-between;
           near = h .near;
           source-type = a .kind;
           target-type = b .kind;
@@ -124,9 +141,9 @@ module _ {sheet : Sheet} {kinds positions rows first at starts ends : List ℕ} 
         })
 
     -- and what it then has
-    pub summed-is : summed (worth at starts ends scores bounds starts′ ends′ scores′ (getD positions s 0) (getD positions t 0)) rows (getD first (32 * getD kinds s 0 + getD kinds t 0) 0) (getD first (32 * getD kinds s 0 + getD kinds t 0 + 1) 0)
+    pub together-is : together (worth at starts ends scores bounds starts′ ends′ scores′ (getD positions s 0) (getD positions t 0)) rows (getD first (32 * getD kinds s 0 + getD kinds t 0) 0) (getD first (32 * getD kinds s 0 + getD kinds t 0 + 1) 0)
         ≡ region-score (sheet .qualifiers) (sheet .segments) (candidate sheet s) (candidate sheet t)
-    summed-is =
+    together-is =
         rw (h .candidates .kind s (omega (arith, h .to-end)), h .candidates .kind t (h .to-end), h .candidates .position s (omega (arith, h .to-end)), h .candidates .position t (h .to-end))
         (ap sum-of
         (map-same (value (candidate sheet s .position)) (λ q. segment-score q (candidate sheet s .position) place (sheet .segments)) begins (stops - begins)

@@ -13,9 +13,9 @@ use Rattle.gaze.specs.declared.Segment.{Segment}
 use Rattle.gaze.specs.Lists.{Each, keep, listed}
 use Rattle.gaze.specs.SegmentScore.{enters, share, largest, largest-share}
 use Rattle.gaze.proofs.ListLaws.{each-mapped, each-listed, keep-all, listed-length, listed-joined, listed-none}
+use Rattle.sorted.specs.Sorted.{First}
 use Rattle.rows.specs.Rows.{row, rows}
 use Rattle.rows.proofs.Shares.{share-before}
-use Rattle.slots.specs.Search.{FirstFrom}
 
 abbrev Zeros : List ℤ → Type 0
 Zeros l = Each (λ z. z ≡ pos 0) l
@@ -52,7 +52,7 @@ length-map : {A B : Type 0} (f : A → B) (l : List A) → length (map f l) ≡ 
 length-map f [] = refl
 length-map f (a ∷ l) = ap suc (length-map f l)
 
-module _ (kind : ℕ) (starts ends : List ℕ) (scores : List ℤ) (lo hi s t behind : ℕ) (p : FirstFrom starts lo hi (t + 1) behind) where
+module _ (kind : ℕ) (starts ends : List ℕ) (scores : List ℤ) (lo hi s t behind : ℕ) (p : First starts lo hi (t + 1) behind) where
   near : List Segment
   near = rows kind starts ends scores lo behind
 
@@ -63,8 +63,8 @@ module _ (kind : ℕ) (starts ends : List ℕ) (scores : List ℤ) (lo hi s t be
   unfolding near far
   all-rows =
       let f = row kind starts ends scores in
-      let a = p .above in
-      let b = p .below in
+      let a = p .begun in
+      let b = p .within in
       let n : hi - lo ≡ (behind - lo) + (hi - behind) = omega arith in
       let e : lo + (behind - lo) ≡ behind = omega arith in
       ap (listed f lo) n ∙ (listed-joined f lo (behind - lo) (hi - behind) ∙ ap (λ (x : ℕ). listed f lo (behind - lo) ++ listed f x (hi - behind)) e)
@@ -77,7 +77,7 @@ module _ (kind : ℕ) (starts ends : List ℕ) (scores : List ℤ) (lo hi s t be
   far-zeros =
       each-mapped (λ g. t < g .start) (λ z. z ≡ pos 0) (share s t) (rows kind starts ends scores behind hi)
       (λ g h. share-before s t (g .start) (g .end) (g .score) h)
-      (each-listed (λ g. t < g .start) (row kind starts ends scores) behind (hi - behind) (λ i l u. let b = p .below in let k = p .from i l (omega arith) in omega arith))
+      (each-listed (λ g. t < g .start) (row kind starts ends scores) behind (hi - behind) (λ i l u. let b = p .within in let k = p .enough i l (omega arith) in omega arith))
 
   shares : map (share s t) (keep (enters s t) (rows kind starts ends scores lo hi)) ≡ map (share s t) near ++ map (share s t) far
   shares = all-enter (rows kind starts ends scores lo hi) ∙ (ap (map (share s t)) all-rows ∙ map-append (share s t) near far)
@@ -103,7 +103,7 @@ module _ (kind : ℕ) (starts ends : List ℕ) (scores : List ℤ) (lo hi s t be
       → larger-of value (pos 0) ≡ largest-share s t (rows kind starts ends scores lo hi)
   unfolding near
   some-behind h k e =
-      let a = p .above in
-      let b = p .below in
+      let a = p .begun in
+      let b = p .within in
       ap (λ (z : ℤ). larger-of z (pos 0)) (e ∙ ap largest (all-enter near))
       ∙ sym (ap largest shares ∙ zeros-after (map (share s t) near) (map (share s t) far) (omega (arith, long-near, k)) (omega (arith, long-far, h)) far-zeros)

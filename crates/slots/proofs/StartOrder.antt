@@ -14,9 +14,10 @@ use Rattle.gaze.specs.Lists.{Each, keep, listed}
 use Rattle.gaze.specs.Ranges.{Before, InOrder, segment-keys}
 use Rattle.gaze.proofs.ListLaws.{each-at, each-map, each-kept, each-listed, keep-append, keep-each, keep-no, listed-at, listed-length, listed-joined}
 use Rattle.gaze.proofs.OrderLaws.{order-rest, order-head}
+use Rattle.sorted.specs.Sorted.{First}
 use Rattle.rows.specs.Rows.{row, rows}
 use Rattle.slots.specs.Slots.{Grouped, Slots, starts-at, ending}
-use Rattle.slots.specs.Search.{Rising, FirstFrom, Starting}
+use Rattle.slots.specs.Search.{Rising, Starting}
 
 -- each segment starts no later than those after it
 unfoldable pub Rises : List Segment → Type 0
@@ -87,85 +88,30 @@ pub ending-rising : {segments : List Segment} {at starts ends bounds starts′ e
 ending-rising {segments = segments} used t s o g l j h =
     grouped-rising g l j h (keep-rises _ _ (rw (s .grouped .is j h) (keep-rises _ segments (in-order-rises segments o))))
 
--- ---- the search between low and high
-pub record Searching (starts : List ℕ) (lo hi s low high : ℕ) : Type 0 where
-  pub above : lo ≤ low
-  pub between : low ≤ high
-  pub below : high ≤ hi
-  pub before : (i : ℕ) → lo ≤ i → i < low → getD starts i 0 < s
-  pub from : (i : ℕ) → high ≤ i → i < hi → s ≤ getD starts i 0
-
-module _ (starts : List ℕ) (lo hi s : ℕ) (r : Rising starts lo hi) where
-  pub search-all : Searching starts lo hi s lo hi
-  search-all =
-      record {
-        above = omega arith;
-        between = r .ordered;
-        below = omega arith;
-        before = λ i h l. absurd (none-between i h l);
-        from = λ i h l. absurd (none-between i h l);
-      }
-    where
-      none-between : {n : ℕ} (i : ℕ) → n ≤ i → i < n → ⊥
-      none-between i h l = omega arith
-
-  module _ {low high : ℕ} (middle : ℕ) (q : Searching starts lo hi s low high) (a : low ≤ middle) (b : middle < high) where
-    pub search-up : getD starts middle 0 < s → Searching starts lo hi s (middle + 1) high
-    search-up h =
-        record {
-          above = omega (arith, q .above);
-          between = omega arith;
-          below = q .below;
-          before = λ i l u. omega (arith, r .rises i middle l (omega arith) (omega (arith, q .below)));
-          from = q .from;
-        }
-
-    pub search-down : s ≤ getD starts middle 0 → Searching starts lo hi s low middle
-    search-down h =
-        record {
-          above = q .above;
-          between = a;
-          below = omega (arith, q .below);
-          before = q .before;
-          from = λ i l u. omega (arith, r .rises middle i (omega (arith, q .above)) l u);
-        }
-
-  pub search-ends : {low high : ℕ} → high ≤ low → Searching starts lo hi s low high → FirstFrom starts lo hi s low
-  search-ends h q =
-      record {
-        above = q .above;
-        below = omega (arith, q .between, q .below);
-        before = q .before;
-        from = λ i l u. q .from i (omega (arith, h)) u;
-      }
-
-pub rising-part : {starts : List ℕ} {lo hi : ℕ} (lo′ : ℕ) → Rising starts lo hi → lo ≤ lo′ → lo′ ≤ hi → Rising starts lo′ hi
-rising-part lo′ r h k = record { ordered = k; long = r .long; rises = λ i j a b c. r .rises i j (omega arith) b c }
-
 -- ---- the rows that start at s are those from the first that does not start before s to the first that starts behind s
-pub starting : {starts : List ℕ} {lo hi s lo′ hi′ : ℕ} → FirstFrom starts lo hi s lo′ → FirstFrom starts lo′ hi (s + 1) hi′ → Starting starts lo hi s lo′ hi′
+pub starting : {starts : List ℕ} {lo hi s lo′ hi′ : ℕ} → First starts lo hi s lo′ → First starts lo′ hi (s + 1) hi′ → Starting starts lo hi s lo′ hi′
 starting {starts} {lo} {hi} {s} {lo′} {hi′} p q =
-    record { above = p .above; ordered = q .above; below = q .below; is = λ kind ends scores. sym (together kind ends scores) }
+    record { above = p .begun; ordered = q .begun; below = q .within; is = λ kind ends scores. sym (together kind ends scores) }
   where
     together : (kind : ℕ) (ends : List ℕ) (scores : List ℤ) → keep (starts-at s) (rows kind starts ends scores lo hi) ≡ rows kind starts ends scores lo′ hi′
     together kind ends scores =
         let f = row kind starts ends scores in
-        let a = p .above in
-        let b = q .above in
-        let c = q .below in
+        let a = p .begun in
+        let b = q .begun in
+        let c = q .within in
         let n : hi - lo ≡ (lo′ - lo) + (hi - lo′) = omega arith in
         let m : hi - lo′ ≡ (hi′ - lo′) + (hi - hi′) = omega arith in
         let d : lo + (lo′ - lo) ≡ lo′ = omega arith in
         let e : lo′ + (hi′ - lo′) ≡ hi′ = omega arith in
         let first : keep (starts-at s) (listed f lo (lo′ - lo)) ≡ [] =
         keep-no (starts-at s) (listed f lo (lo′ - lo)) (each-listed (λ g. starts-at s g ≡ false) f lo (lo′ - lo) (λ i l u.
-        ne-eqb (getD starts i 0) s (λ h. let k = p .before i l (omega arith) in omega arith))) in
+        ne-eqb (getD starts i 0) s (λ h. let k = p .less i l (omega arith) in omega arith))) in
         let middle : keep (starts-at s) (listed f lo′ (hi′ - lo′)) ≡ listed f lo′ (hi′ - lo′) =
         keep-each (starts-at s) (listed f lo′ (hi′ - lo′)) (each-listed (λ g. starts-at s g ≡ true) f lo′ (hi′ - lo′) (λ i l u.
-        eq-eqb (getD starts i 0) s (let k = p .from i l (omega arith) in let j = q .before i l (omega arith) in omega arith))) in
+        eq-eqb (getD starts i 0) s (let k = p .enough i l (omega arith) in let j = q .less i l (omega arith) in omega arith))) in
         let last : keep (starts-at s) (listed f hi′ (hi - hi′)) ≡ [] =
         keep-no (starts-at s) (listed f hi′ (hi - hi′)) (each-listed (λ g. starts-at s g ≡ false) f hi′ (hi - hi′) (λ i l u.
-        ne-eqb (getD starts i 0) s (λ h. let k = q .from i l (omega arith) in omega arith))) in
+        ne-eqb (getD starts i 0) s (λ h. let k = q .enough i l (omega arith) in omega arith))) in
         let split : listed f lo (hi - lo) ≡ listed f lo (lo′ - lo) ++ listed f lo′ (hi - lo′) =
         ap (listed f lo) n ∙ (listed-joined f lo (lo′ - lo) (hi - lo′) ∙ ap (λ (x : ℕ). listed f lo (lo′ - lo) ++ listed f x (hi - lo′)) d) in
         let rest : listed f lo′ (hi - lo′) ≡ listed f lo′ (hi′ - lo′) ++ listed f hi′ (hi - hi′) =

@@ -1,4 +1,4 @@
--- Rows in the order of their starts, and where the first stands that starts at a position or after it.
+-- Rows in the order of their starts, and those of them that start at a position.
 use mathlib.Core.Path.{_≡_}
 use mathlib.Core.List.{List}
 use Prim.Native.Nat.{ℕ, _≤_, _<_}
@@ -12,12 +12,6 @@ pub record Rising (starts : List ℕ) (lo hi : ℕ) : Type 0 where
   pub ordered : lo ≤ hi
   pub long : hi ≤ length starts
   pub rises : (i j : ℕ) → lo ≤ i → i ≤ j → j < hi → getD starts i 0 ≤ getD starts j 0
-
-pub record FirstFrom (starts : List ℕ) (lo hi s r : ℕ) : Type 0 where
-  pub above : lo ≤ r
-  pub below : r ≤ hi
-  pub before : (i : ℕ) → lo ≤ i → i < r → getD starts i 0 < s
-  pub from : (i : ℕ) → r ≤ i → i < hi → s ≤ getD starts i 0
 
 -- Of rows lo to hi those that start at s are rows lo′ to hi′.
 pub record Starting (starts : List ℕ) (lo hi s lo′ hi′ : ℕ) : Type 0 where

@@ -11,7 +11,7 @@ ghost use Rattle.gaze.specs.SegmentScore.{largest-share};
 ghost use Rattle.rows.specs.Rows.{row, rows, Sound, scored, Rated};
 ghost use Rattle.segment.specs.Choice.{Room, Kept};
 ghost use Rattle.slots.specs.Slots.{slot-of, class-phase, Marked, Grouped, Slots, starts-at, ends-at, ending, Narrowing};
-ghost use Rattle.slots.specs.Search.{Rising, FirstFrom, Starting};
+ghost use Rattle.slots.specs.Search.{Rising, Starting};
 
 // ---- which slot
 
@@ -93,24 +93,6 @@ pub fn group<'a>(
 
 // ---- rows by their starts
 
-// The first of rows `lo` to `hi` that starts at `s` or after it, or `hi`.
-fn first_from(start: &[u32], lo: usize, hi: usize, s: u32) -> usize
-    requires { ⌜ Rising (now start) lo hi ⌝ }
-    ensures { λ r. ⌜ FirstFrom (now (start .entry)) lo hi s r ⌝ }
-{
-    let mut low = lo;
-    let mut high = hi;
-    while low < high {
-        let middle = low + (high - low) / 2;
-        if start[middle] < s {
-            low = middle + 1;
-        } else {
-            high = middle;
-        }
-    }
-    low
-}
-
 // Rows `lo` to `hi`, `hi` left out.
 pub struct Span {
     pub lo: usize,
@@ -121,8 +103,8 @@ pub fn starting_at(start: &[u32], lo: usize, hi: usize, s: u32) -> Span
     requires { ⌜ Rising (now start) lo hi ⌝ ∗ ⌜ s ≤ 4000000 ⌝ }
     ensures { λ r. ⌜ Starting (now (start .entry)) lo hi s (r .lo) (r .hi) ⌝ }
 {
-    let first = first_from(start, lo, hi, s);
-    let beyond = first_from(start, first, hi, s + 1);
+    let first = sorted::first_from(start, lo, hi, s);
+    let beyond = sorted::first_from(start, first, hi, s + 1);
     Span {
         lo: first,
         hi: beyond,
@@ -164,7 +146,7 @@ pub fn share_to<'a>(
     requires { ⌜ s ≤ t ⌝ ∗ ⌜ t ≤ 4000000 ⌝ }
     ensures { λ r. ⌜ ((kind : ℕ) → r ≡ largest-share s t (rows kind (now (start .entry)) (now (end .entry)) (now (score .entry)) lo hi)) ⌝ }
 {
-    let behind = first_from(start, lo, hi, t + 1);
+    let behind = sorted::first_from(start, lo, hi, t + 1);
     let value = rows::best_share(start, end, score, lo, behind, s, t);
     if behind == hi {
         return value;

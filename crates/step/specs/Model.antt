@@ -2,7 +2,7 @@
 use mathlib.Core.Path.{_≡_}
 use mathlib.Core.Bool.{Bool}
 use mathlib.Core.List.{List}
-use Prim.Native.Nat.{ℕ, _≤_, _<_}
+use Prim.Native.Nat.{ℕ, suc, _≤_, _<_}
 use lib.IntN.{ℤ}
 use lib.ListN.{length}
 use Rattle.gaze.specs.Lists.{Each}
@@ -10,14 +10,16 @@ use Rattle.gaze.specs.Sheet.{Sheet, end-number}
 use Rattle.gaze.specs.Columns.{Qualifiers}
 use Rattle.slots.specs.Slots.{Slots, Grouped, ending}
 use Rattle.rows.specs.Rows.{Sound, Rated}
+use Rattle.sums.specs.Table.{Running}
 use Rattle.lines.specs.Lines.{LinesAt}
 use Rattle.rules.specs.Tables.{LegalRow}
 use Rattle.regions.specs.Evidence.{Table, Marked}
 use Rattle.costs.specs.Rows.{Costs, GainRow}
 
--- The columns hold the sheet: its candidates, rules and penalties; its Q lines by pair of types; its segments by slot, `total` rows of them.
+-- The columns hold the sheet: its candidates, rules and penalties; its Q lines by pair of types; its segments by slot, `total` rows of
+-- them; which slots are narrowed to a target; and running sums over the slots that are flagged.
 pub record Model (sheet : Sheet) (kinds positions : List ℕ) (scores : List ℤ) (rows table distances : List ℕ) (penalties : List ℤ) (first : List ℕ) (intron : List ℤ)
-    (lines lines-at at starts ends : List ℕ) (worths rates : List ℤ) (total : ℕ) (used : List Bool) : Type 0 where
+    (lines lines-at at starts ends : List ℕ) (worths rates : List ℤ) (total : ℕ) (used summed : List Bool) (sums : List ℤ) : Type 0 where
   pub costs : Costs sheet kinds positions scores rows table distances penalties first intron
   pub qualifiers : Qualifiers (sheet .qualifiers) lines
   pub lines-table : LinesAt (sheet .qualifiers) lines lines-at
@@ -26,12 +28,13 @@ pub record Model (sheet : Sheet) (kinds positions : List ℕ) (scores : List ℤ
   pub all : columns .total ≡ total
   pub marked : Each (Marked used) (sheet .qualifiers)
   pub used-long : 64 ≤ length used
+  pub running : Running summed at starts ends rates positions (suc (end-number sheet)) sums
 
 -- Some sheet is held, and t is one of its targets.
 pub record Target (kinds positions : List ℕ) (scores : List ℤ) (rows table distances : List ℕ) (penalties : List ℤ) (first : List ℕ) (intron : List ℤ)
-    (lines lines-at at starts ends : List ℕ) (worths rates : List ℤ) (total : ℕ) (used : List Bool) (t : ℕ) : Type 0 where
+    (lines lines-at at starts ends : List ℕ) (worths rates : List ℤ) (total : ℕ) (used summed : List Bool) (sums : List ℤ) (t : ℕ) : Type 0 where
   pub sheet : Sheet
-  pub model : Model sheet kinds positions scores rows table distances penalties first intron lines lines-at at starts ends worths rates total used
+  pub model : Model sheet kinds positions scores rows table distances penalties first intron lines lines-at at starts ends worths rates total used summed sums
   pub from-one : 0 < t
   pub to-end : t ≤ end-number sheet
 

@@ -63,6 +63,8 @@ pub fn steps_into<'a>(
     rate: &'a [i64],
     total: usize,
     used: &'a [bool],
+    summed: &'a [bool],
+    sums: &'a [i64],
     t: usize,
     lo: usize,
     hi: usize,
@@ -74,10 +76,10 @@ pub fn steps_into<'a>(
     legal: &mut [bool],
     gains: &mut [i64],
 )
-    requires { ⌜ Target (now kind) (now position) (now score) (now rules) (now table) (now distance) (now penalty) (now first) (now intron) (now lines) (now pairs) (now at) (now start) (now end) (now worth) (now rate) total (now used) t ⌝ }
+    requires { ⌜ Target (now kind) (now position) (now score) (now rules) (now table) (now distance) (now penalty) (now first) (now intron) (now lines) (now pairs) (now at) (now start) (now end) (now worth) (now rate) total (now used) (now summed) (now sums) t ⌝ }
     requires { ⌜ Scratch total (now bounds) (now starts) (now ends) (now scores) (now rates) ⌝ }
     requires { ⌜ lo ≤ hi ⌝ ∗ ⌜ hi ≤ t ⌝ ∗ ⌜ hi ≤ length (now legal) ⌝ ∗ ⌜ hi ≤ length (now gains) ⌝ }
-    ensures { λ _. ⌜ ((sheet : Sheet) → Model sheet (now (kind .entry)) (now (position .entry)) (now (score .entry)) (now (rules .entry)) (now (table .entry)) (now (distance .entry)) (now (penalty .entry)) (now (first .entry)) (now (intron .entry)) (now (lines .entry)) (now (pairs .entry)) (now (at .entry)) (now (start .entry)) (now (end .entry)) (now (worth .entry)) (now (rate .entry)) total (now (used .entry)) → t ≤ end-number sheet → StepRows sheet t lo hi (now (legal .exit)) (now (gains .exit))) ⌝ }
+    ensures { λ _. ⌜ ((sheet : Sheet) → Model sheet (now (kind .entry)) (now (position .entry)) (now (score .entry)) (now (rules .entry)) (now (table .entry)) (now (distance .entry)) (now (penalty .entry)) (now (first .entry)) (now (intron .entry)) (now (lines .entry)) (now (pairs .entry)) (now (at .entry)) (now (start .entry)) (now (end .entry)) (now (worth .entry)) (now (rate .entry)) total (now (used .entry)) (now (summed .entry)) (now (sums .entry)) → t ≤ end-number sheet → StepRows sheet t lo hi (now (legal .exit)) (now (gains .exit))) ⌝ }
 {
     rules::legal_row(kind, position, rules, table, t, lo, hi, legal);
     let p = position[t];
@@ -105,6 +107,8 @@ pub fn steps_into<'a>(
         end,
         worth,
         rate,
+        summed,
+        sums,
         bounds,
         starts,
         ends,

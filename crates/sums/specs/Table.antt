@@ -57,6 +57,12 @@ pub record Sums (used : List Bool) (at starts ends : List ℕ) (rates : List ℤ
   pub filled : (j : ℕ) → j < count → getD used j false ≡ true → Filled starts ends rates (getD at j 0) (getD at (j + 1) 0) positions (j * 2052) n table
   pub small : Small table
 
+-- A table that is lent with flags of the slots that it holds: nothing is asked of it where none is flagged.
+pub record Running (flags : List Bool) (at starts ends : List ℕ) (rates : List ℤ) (positions : List ℕ) (n : ℕ) (table : List ℤ) : Type 0 where
+  pub long : 64 ≤ length flags
+  pub room : (j : ℕ) → j < 64 → getD flags j false ≡ true → 131328 ≤ length table
+  pub held : (j : ℕ) → j < 64 → getD flags j false ≡ true → Sums flags at starts ends rates positions n 64 table
+
 -- What the filling asks: the slots' bounds rise, and no slot has more rows than a sheet has segments.
 pub record Filling (at : List ℕ) (total : ℕ) (used : List Bool) (table : List ℤ) : Type 0 where
   pub at-long : 64 < length at

@@ -2,9 +2,21 @@
 use native.Mathlib.Omega.{arith}
 use Rattle.gaze.specs.Step.{steps}
 use Rattle.engine.proofs.Preparing.{ready-some, ready-few, ready-rows, ready-end}
+use Rattle.engine.proofs.Summing.{ready-places, ready-rates, ready-filling, ready-sums}
 use borrow.Author.Needs.{needs}
 use Rattle.engine.proofs.best_chain.Statement.{statement}
 use Rattle.engine.proofs.best_chain.Tie as tie
+
+empty-table-requires : tie.Need-empty-table-requires
+empty-table-requires c κs = search needs
+
+slice-aggregate-fill-table : tie.Need-slice-aggregate-fill-table
+slice-aggregate-fill-table c = search needs
+
+fill-table-requires : tie.Need-fill-table-requires
+fill-table-requires c κs =
+    let r = c .before .before .before .before .before .before .before .before .before .before .before .before .before .before .before .before .before .before .before .pre .0 .ready in
+    (ready-rates r, (ready-places r, ready-filling r (omega arith) (omega arith) (c .before .before .before .before .before .before .before .before .before .before .before .before .empty-table .ensures)))
 
 slice-aggregate-search : tie.Need-slice-aggregate-search
 slice-aggregate-search c = search needs
@@ -41,10 +53,10 @@ slice-aggregate-search-11 c = search needs
 
 search-requires : tie.Need-search-requires
 search-requires c κs =
-    let p = c .before .before .before .before .before .before .before .before .before .before .before .before .before .before .before .before .before .before .before .before .before .before .before .before .before .before .before .before .before .before .before .before .before .pre .0 in
+    let p = c .before .before .before .before .before .before .before .before .before .before .before .before .before .before .before .before .before .before .before .before .before .before .before .before .before .before .before .before .before .before .before .before .before .before .before .before .before .before .before .before .before .before .before .before .before .before .before .before .before .before .before .before .pre .0 in
     let few = ready-few (p .ready) in
     let rows = ready-rows (p .ready) in (
-      record { sheet = p .sheet; model = p .ready .model; all = p .ready .all },
+      record { sheet = p .sheet; model = ready-sums (p .ready) (omega arith) (omega arith) (c .before .before .before .before .before .before .before .before .before .before .before .before .before .before .before .before .before .before .before .before .before .before .before .before .before .before .before .before .before .before .before .before .fill-table .ensures); all = p .ready .all },
       (
         record {
           bounds-long = omega arith;
@@ -74,12 +86,12 @@ slice-aggregate-answer-3 c = search needs
 
 answer-requires : tie.Need-answer-requires
 answer-requires c κs =
-    let p = c .before .before .before .before .before .before .before .before .before .before .before .before .before .before .before .before .before .before .before .before .before .before .before .before .before .before .before .before .before .before .before .before .before .before .before .before .before .before .before .before .before .before .before .before .before .before .before .before .pre in
+    let p = c .before .before .before .before .before .before .before .before .before .before .before .before .before .before .before .before .before .before .before .before .before .before .before .before .before .before .before .before .before .before .before .before .before .before .before .before .before .before .before .before .before .before .before .before .before .before .before .before .before .before .before .before .before .before .before .before .before .before .before .before .before .before .before .before .before .before .before .pre in
     let r = p .0 .ready in
     let few = ready-few r in (
       record {
         model = steps (p .0 .sheet);
-        searched = c .before .before .before .before .before .before .before .before .before .before .before .before .before .before .search .ensures .1 (p .0 .sheet) (r .model) (r .all);
+        searched = c .before .before .before .before .before .before .before .before .before .before .before .before .before .before .search .ensures .1 (p .0 .sheet) (ready-sums r (omega (arith, c .before .before .before .before .before .before .before .before .before .before .before .before .before .before .before .before .before .before .before .before .before .before .before .before .before .before .before .before .before .before .before .before .before .before .before .before .before .before .before .before .before .before .before .before .before .before .before .before .before .fill-table-arg10 .given)) (omega (arith, c .before .before .before .before .before .before .before .before .before .before .before .before .before .before .before .before .before .before .before .before .before .before .before .before .before .before .before .before .before .before .before .before .before .before .before .before .before .before .before .before .before .before .before .before .before .before .sums2 .given)) (c .before .before .before .before .before .before .before .before .before .before .before .before .before .before .before .before .before .before .before .before .before .before .before .before .before .before .before .before .before .before .before .before .before .before .before .before .before .before .before .before .before .before .before .before .before .before .before .fill-table .ensures)) (r .all);
         some = ready-some r;
         few = few;
         reach-long = omega (arith, few);
@@ -96,12 +108,15 @@ returns : tie.Need-returns
 returns c =
     λ sheet r.
     rw (ready-end r) at
-    (c .before .before .answer .ensures (steps sheet) (c .before .before .before .before .before .before .before .before .before .before .before .before .before .before .before .before .before .search .ensures .1 sheet (r .model) (r .all)))
+    (c .before .before .answer .ensures (steps sheet) (c .before .before .before .before .before .before .before .before .before .before .before .before .before .before .before .before .before .search .ensures .1 sheet (ready-sums r (omega (arith, c .before .before .before .before .before .before .before .before .before .before .before .before .before .before .before .before .before .before .before .before .before .before .before .before .before .before .before .before .before .before .before .before .before .before .before .before .before .before .before .before .before .before .before .before .before .before .before .before .before .before .before .before .fill-table-arg10 .given)) (omega (arith, c .before .before .before .before .before .before .before .before .before .before .before .before .before .before .before .before .before .before .before .before .before .before .before .before .before .before .before .before .before .before .before .before .before .before .before .before .before .before .before .before .before .before .before .before .before .before .before .before .before .sums2 .given)) (c .before .before .before .before .before .before .before .before .before .before .before .before .before .before .before .before .before .before .before .before .before .before .before .before .before .before .before .before .before .before .before .before .before .before .before .before .before .before .before .before .before .before .before .before .before .before .before .before .before .before .fill-table .ensures)) (r .all)))
 
 pub best-chain-spec : {M : Type 1} → statement M
 best-chain-spec =
     tie.close
     (tie.spec
+    empty-table-requires
+    slice-aggregate-fill-table
+    fill-table-requires
     slice-aggregate-search
     slice-aggregate-search-2
     slice-aggregate-search-3

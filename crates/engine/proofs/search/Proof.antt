@@ -14,31 +14,31 @@ use Rattle.engine.proofs.search.Statement.{statement}
 use Rattle.engine.proofs.search.Tie as tie
 
 abbrev Inv-loop : tie.InvT-loop
-Inv-loop kind position score rules table distance penalty first intron lines pairs at start end worth rate total used n bounds₀ starts₀ ends₀ scores₀ rates₀ legal₀ gains₀ reach₀ value₀ from₀ e₀ bounds starts ends scores rates legal gains reach value from e =
+Inv-loop kind position score rules table distance penalty first intron lines pairs at start end worth rate total used summed sums n bounds₀ starts₀ ends₀ scores₀ rates₀ legal₀ gains₀ reach₀ value₀ from₀ e₀ bounds starts ends scores rates legal gains reach value from e =
     ((0 < e) × (e ≤ n))
     × (Kept bounds₀ starts₀ ends₀ scores₀ rates₀ legal₀ gains₀ reach₀ value₀ from₀ bounds starts ends scores rates legal gains reach value from
-    × ((sheet : Sheet) → Model sheet kind position score rules table distance penalty first intron lines pairs at start end worth rate total used → n ≡ suc (end-number sheet)
+    × ((sheet : Sheet) → Model sheet kind position score rules table distance penalty first intron lines pairs at start end worth rate total used summed sums → n ≡ suc (end-number sheet)
     → Searched (steps sheet) e reach value from))
 
 abbrev μ-loop : tie.MeasureT-loop
-μ-loop kind position score rules table distance penalty first intron lines pairs at start end worth rate total used n bounds₀ starts₀ ends₀ scores₀ rates₀ legal₀ gains₀ reach₀ value₀ from₀ e₀ bounds starts ends scores rates legal gains reach value from e =
+μ-loop kind position score rules table distance penalty first intron lines pairs at start end worth rate total used summed sums n bounds₀ starts₀ ends₀ scores₀ rates₀ legal₀ gains₀ reach₀ value₀ from₀ e₀ bounds starts ends scores rates legal gains reach value from e =
     n - e
 
 begin-requires : tie.Need-begin-requires Inv-loop μ-loop
 begin-requires c κs =
-    let a = c .before .before .before .before .before .before .before .before .before .before .before .before .before .before .before .before .before .before .before in
+    let a = c .before .before .before .before .before .before .before .before .before .before .before .before .before .before .before .before .before .before .before .before in
     let p = a .pre .1 .1 in
     let n = a .pre .0 .all in
     record { reach-long = omega (arith, p .reach-long); value-long = omega (arith, p .value-long); from-long = omega (arith, p .from-long) }
 
 loop-holds : tie.Need-loop-holds Inv-loop μ-loop
 loop-holds c =
-    let n = c .before .before .before .before .before .before .before .before .before .before .before .before .before .before .before .before .before .before .before .before .before .before .before .before .before .pre .0 .all in
+    let n = c .before .before .before .before .before .before .before .before .before .before .before .before .before .before .before .before .before .before .before .before .before .before .before .before .before .before .pre .0 .all in
     ((omega arith, omega arith), (kept-all, λ sheet m all. c .before .before .before .before .before .begin .ensures .1 (steps sheet)))
 
 steps-into-requires : tie.Need-steps-into-requires Inv-loop μ-loop
 steps-into-requires c κs =
-    let a = c .before .before .before .before .before .before .before .before .before .before .before .before .before .before .before .before .before .before .before .before .before .before .before .before .before .before .before .before .before .before .before .before .before .before in
+    let a = c .before .before .before .before .before .before .before .before .before .before .before .before .before .before .before .before .before .before .before .before .before .before .before .before .before .before .before .before .before .before .before .before .before .before .before in
     let h = a .pre .0 in
     let l = c .before .before .before .before .before .before .before .before .loop in
     let q = a .pre .1 .1 in (
@@ -51,7 +51,7 @@ steps-into-requires c κs =
 
 settle-requires : tie.Need-settle-requires Inv-loop μ-loop
 settle-requires c κs =
-    let a = c .before .before .before .before .before .before .before .before .before .before .before .before .before .before .before .before .before .before .before .before .before .before .before .before .before .before .before .before .before .before .before .before .before .before .before .before .before .before .before .before .before .before .before .before .before .before .before .before .before .before .before in
+    let a = c .before .before .before .before .before .before .before .before .before .before .before .before .before .before .before .before .before .before .before .before .before .before .before .before .before .before .before .before .before .before .before .before .before .before .before .before .before .before .before .before .before .before .before .before .before .before .before .before .before .before .before .before in
     let h = a .pre .0 in
     let l = c .before .before .before .before .before .before .before .before .before .before .before .before .before .before .before .before .before .before .before .before .before .before .before .before .before .loop in
     let k = l .inv .1 .0 in
@@ -75,14 +75,14 @@ settle-requires c κs =
     )
 
 add-e : tie.Need-add-e Inv-loop μ-loop
-add-e c = let h = c .before .before .before .before .before .before .before .before .before .before .before .before .before .before .before .before .before .before .before .before .before .before .before .before .before .before .before .before .before .before .before .before .before .before .before .before .before .before .before .before .before .before .before .before .before .before .before .before .before .before .before .before .before .before .before .before .before .pre .0 in omega (arith, c .before .before .before .before .before .before .before .before .before .before .before .before .before .before .before .before .before .before .before .before .before .before .before .before .before .before .before .before .before .before .loop-test .taken, h .all, h .model .costs .legality .ranged .features .few)
+add-e c = let h = c .before .before .before .before .before .before .before .before .before .before .before .before .before .before .before .before .before .before .before .before .before .before .before .before .before .before .before .before .before .before .before .before .before .before .before .before .before .before .before .before .before .before .before .before .before .before .before .before .before .before .before .before .before .before .before .before .before .before .pre .0 in omega (arith, c .before .before .before .before .before .before .before .before .before .before .before .before .before .before .before .before .before .before .before .before .before .before .before .before .before .before .before .before .before .before .loop-test .taken, h .all, h .model .costs .legality .ranged .features .few)
 
 loop-less : tie.Need-loop-less Inv-loop μ-loop
 loop-less c = omega (arith, c .before .before .before .before .before .before .before .before .before .before .before .before .before .before .before .before .before .before .before .before .before .before .before .before .before .before .before .before .before .before .loop-test .taken)
 
 loop-again : tie.Need-loop-again Inv-loop μ-loop
 loop-again c =
-    let a = c .before .before .before .before .before .before .before .before .before .before .before .before .before .before .before .before .before .before .before .before .before .before .before .before .before .before .before .before .before .before .before .before .before .before .before .before .before .before .before .before .before .before .before .before .before .before .before .before .before .before .before .before .before .before .before .before .before in
+    let a = c .before .before .before .before .before .before .before .before .before .before .before .before .before .before .before .before .before .before .before .before .before .before .before .before .before .before .before .before .before .before .before .before .before .before .before .before .before .before .before .before .before .before .before .before .before .before .before .before .before .before .before .before .before .before .before .before .before .before in
     let l = c .before .before .before .before .before .before .before .before .before .before .before .before .before .before .before .before .before .before .before .before .before .before .before .before .before .before .before .before .before .before .before .loop in
     let k = l .inv .1 .0 in
     let lt = c .before .before .before .before .before .before .before .before .before .before .before .before .before .before .before .before .before .before .before .before .before .before .before .before .before .before .before .before .before .before .loop-test .taken in

@@ -30,7 +30,7 @@ element-copy-out-region-sum-2 : tie.Need-element-copy-out-region-sum-2
 element-copy-out-region-sum-2 c = search needs
 
 region-sum-requires : tie.Need-region-sum-requires
-region-sum-requires c κs = search needs
+region-sum-requires c κs = let p = c .before .before .before .before .before .before .before .before .before .before .before .pre in (p .columns, (p .near, (p .between, p .lines)))
 
 returns : tie.Need-returns
 returns c = search needs

@@ -12,16 +12,16 @@ use Rattle.whole.proofs.Bits.{back}
 use Rattle.gaze.proofs.Tests.{yes}
 use Rattle.lines.specs.Regions.{RegionRow}
 use Rattle.regions.specs.Evidence.{Evidence}
-use Rattle.regions.proofs.Scores.{pair-of, summed-is, row-none, row-more}
+use Rattle.regions.proofs.Scores.{pair-of, together-is, row-none, row-more}
 use Rattle.regions.proofs.region_row.Statement.{statement}
 use Rattle.regions.proofs.region_row.Tie as tie
 
 abbrev Inv-loop : tie.InvT-loop
-Inv-loop kind position lines first at start end score rate bounds starts ends scores rates t lo hi legal regions₀ target p s₀ regions s =
-    ((lo ≤ s) × (s ≤ hi)) × ((length regions ≡ length regions₀) × ((sheet : Sheet) → Evidence sheet kind position lines first at start end score rate bounds starts ends scores rates t → RegionRow sheet t lo s legal regions))
+Inv-loop kind position lines first at start end score rate summed sums bounds starts ends scores rates t lo hi legal regions₀ target p s₀ regions s =
+    ((lo ≤ s) × (s ≤ hi)) × ((length regions ≡ length regions₀) × ((sheet : Sheet) → Evidence sheet kind position lines first at start end score rate summed sums bounds starts ends scores rates t → RegionRow sheet t lo s legal regions))
 
 abbrev μ-loop : tie.MeasureT-loop
-μ-loop kind position lines first at start end score rate bounds starts ends scores rates t lo hi legal regions₀ target p s₀ regions s =
+μ-loop kind position lines first at start end score rate summed sums bounds starts ends scores rates t lo hi legal regions₀ target p s₀ regions s =
     hi - s
 
 mul-target : tie.Need-mul-target Inv-loop μ-loop
@@ -55,13 +55,13 @@ shared-slice-read-region-of-3 : tie.Need-shared-slice-read-region-of-3 Inv-loop 
 shared-slice-read-region-of-3 c = search needs
 
 region-of-requires : tie.Need-region-of-requires Inv-loop μ-loop
-region-of-requires c κs = pair-of (c .before .before .before .before .before .before .before .before .before .before .before .before .before .before .before .before .before .pre .0 .evidence) (c .before .before .before .before .loop .s) (omega arith)
+region-of-requires c κs = pair-of (c .before .before .before .before .before .before .before .before .before .before .before .before .before .before .before .before .before .before .pre .0 .evidence) (c .before .before .before .before .loop .s) (omega arith)
 
-mul-t36 : tie.Need-mul-t36 Inv-loop μ-loop
-mul-t36 c = omega (arith, c .before .before .before .before .before .loop .inv .1 .0, c .before .before .before .before .before .before .before .before .before .before .before .before .before .before .before .before .before .before .pre .1, c .before .before .before .before .before .before .before .before .before .before .before .before .before .before .before .before .before .before .good)
+mul-t38 : tie.Need-mul-t38 Inv-loop μ-loop
+mul-t38 c = omega (arith, c .before .before .before .before .before .loop .inv .1 .0, c .before .before .before .before .before .before .before .before .before .before .before .before .before .before .before .before .before .before .before .pre .1, c .before .before .before .before .before .before .before .before .before .before .before .before .before .before .before .before .before .before .before .good)
 
 slice-set-from-regions : tie.Need-slice-set-from-regions Inv-loop μ-loop
-slice-set-from-regions c = omega (arith, c .before .before .before .before .before .loop .inv .1 .0, c .before .before .before .before .before .before .before .before .before .before .before .before .before .before .before .before .before .before .pre .1)
+slice-set-from-regions c = omega (arith, c .before .before .before .before .before .loop .inv .1 .0, c .before .before .before .before .before .before .before .before .before .before .before .before .before .before .before .before .before .before .before .pre .1)
 
 add-s : tie.Need-add-s Inv-loop μ-loop
 add-s c = search needs
@@ -72,14 +72,14 @@ loop-less c = search needs
 loop-again : tie.Need-loop-again Inv-loop μ-loop
 loop-again c =
     let l = c .before .before .before .before .before .loop in
-    let a = c .before .before .before .before .before .before .before .before .before .before .before .before .before .before .before .before .before .before in
+    let a = c .before .before .before .before .before .before .before .before .before .before .before .before .before .before .before .before .before .before .before in
     let inside : l .s < length (l .regions) = omega (arith, l .inv .1 .0, a .pre .1) in (
       (omega arith, omega arith),
       (
         length-set (l .regions) (l .s) _ ∙ l .inv .1 .0,
         λ sheet h.
             row-more sheet (a .args .t) (a .args .lo) (l .s) (a .args .legal .now) (l .regions) _ inside
-            (λ y. back (c .region-of .result) (c .region-of .ok) ∙ (c .region-of .ensures (yes (getD (a .args .legal .now) (l .s) false) y) ∙ summed-is h (l .s) (omega arith)))
+            (λ y. back (c .region-of .result) (c .region-of .ok) ∙ (c .region-of .ensures (yes (getD (a .args .legal .now) (l .s) false) y) ∙ together-is h (l .s) (omega arith)))
             (l .inv .1 .1 sheet h),
       ),
     )
@@ -90,7 +90,7 @@ same-length c = search needs
 returns : tie.Need-returns Inv-loop μ-loop
 returns c =
     let l = c .before .loop in
-    let a = c .before .before .before .before .before .before .before .before .before .before .before .before .before .before .args in
+    let a = c .before .before .before .before .before .before .before .before .before .before .before .before .before .before .before .args in
     (l .inv .1 .0, λ sheet h. subst (λ (i : ℕ). RegionRow sheet (a .t) (a .lo) i (a .legal .now) (l .regions)) (omega arith) (l .inv .1 .1 sheet h))
 
 pub region-row-spec : {M : Type 1} → statement M
@@ -110,7 +110,7 @@ region-row-spec =
     mul-region-of-2
     shared-slice-read-region-of-3
     region-of-requires
-    mul-t36
+    mul-t38
     slice-set-from-regions
     add-s
     loop-less

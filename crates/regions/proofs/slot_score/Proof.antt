@@ -1,10 +1,8 @@
 -- `slot_score` is right because the slot's rows are part of columns that are in range, rated, and in the order of their starts.
 use mathlib.Core.Path.{_∙_}
-use Prim.Native.Nat.{_+_, _/_}
-use native.Mathlib.Omega.{arith}
-use lib.ListN.{getD}
+use Prim.Native.Nat.{_/_}
 use Rattle.whole.proofs.Bits.{back}
-use Rattle.slots.proofs.Grouping.{sound-within, rated-within}
+use Rattle.regions.proofs.Parts.{part-sound, part-rated, part-room}
 use borrow.Author.Needs.{needs}
 use Rattle.regions.proofs.slot_score.Statement.{statement}
 use Rattle.regions.proofs.slot_score.Tie as tie
@@ -28,11 +26,8 @@ score-starting-requires : tie.Need-score-starting-requires
 score-starting-requires c κs =
     let a = c .before .before .before .before .before .before in
     let p = a .pre .0 in
-    let j = a .args .slot in
-    let at = a .args .at .now in
-    let o = p .ordered j (a .pre .1 .0) in
-    let w = p .within j (a .pre .1 .0) in
-    (p .rising j (a .pre .1 .0), (sound-within (getD at j 0) (getD at (j + 1) 0) (omega arith) o w (p .sound), (rated-within (getD at j 0) (getD at (j + 1) 0) (omega arith) w (p .rated), (omega (arith, p .rates-long), (a .pre .1 .1 .0, a .pre .1 .1 .1)))))
+    let low = a .pre .1 .0 in
+    (p .rising (a .args .slot) low, (part-sound p low, (part-rated p low, (part-room p low, a .pre .1 .1))))
 
 returns : tie.Need-returns
 returns c = rw (c .before .if1 .taken) (back (c .score-starting .result) (c .score-starting .ok) ∙ c .score-starting .ensures (c .before .before .before .before .before .before .before .args .slot / 4))
@@ -41,11 +36,8 @@ score-rows-requires : tie.Need-score-rows-requires
 score-rows-requires c κs =
     let a = c .before .before .before .before .before .before in
     let p = a .pre .0 in
-    let j = a .args .slot in
-    let at = a .args .at .now in
-    let o = p .ordered j (a .pre .1 .0) in
-    let w = p .within j (a .pre .1 .0) in
-    (sound-within (getD at j 0) (getD at (j + 1) 0) (omega arith) o w (p .sound), (rated-within (getD at j 0) (getD at (j + 1) 0) (omega arith) w (p .rated), (omega (arith, p .rates-long), (a .pre .1 .1 .0, a .pre .1 .1 .1))))
+    let low = a .pre .1 .0 in
+    (part-sound p low, (part-rated p low, (part-room p low, a .pre .1 .1)))
 
 returns-2 : tie.Need-returns-2
 returns-2 c = rw (c .before .if1 .left) (back (c .score-rows .result) (c .score-rows .ok) ∙ c .score-rows .ensures (c .before .before .before .before .before .before .before .args .slot / 4))

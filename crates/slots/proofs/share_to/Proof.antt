@@ -18,7 +18,7 @@ best-share-requires : tie.Need-best-share-requires
 best-share-requires c κs =
     let p = c .before .before .before .pre in
     let f = c .first-from in
-    (sound-within _ _ (omega arith) (f .ensures .above) (f .ensures .below) (p .1 .0), p .1 .1 .0)
+    (sound-within _ _ (omega arith) (f .ensures .begun) (f .ensures .within) (p .1 .0), p .1 .1 .0)
 
 returns : tie.Need-returns
 returns c =

@@ -8,27 +8,33 @@ use Rattle.step.proofs.steps_into.Tie as tie
 
 legal-row-requires : tie.Need-legal-row-requires
 legal-row-requires c κs =
-    let a = c .before .before .before .before .before .before .before .before .before .before .before .before .before .before .before in
+    let a = c .before .before .before .before .before .before .before .before .before .before .before .before .before .before .before .before in
     let p = a .pre .0 in (
       record { sheet = p .sheet; held = p .model .costs .legality; from-one = p .from-one; to-end = p .to-end },
       (a .pre .1 .1 .0, (a .pre .1 .1 .1 .0, a .pre .1 .1 .1 .1 .0)),
     )
 
 mul-p : tie.Need-mul-p
-mul-p c = let p = c .before .before .before .before .before .before .before .before .before .before .before .before .before .before .before .before .before .before .pre .0 in omega (arith, p .model .costs .legality .candidates .positions-long, p .to-end, c .before .before .before .before .before .before .before .before .before .before .before .before .before .before .before .before .before .before .good)
+mul-p c =
+    let a = c .before .before .before .before .before .before .before .before .before .before .before .before .before .before .before .before .before .before .before in
+    let p = a .pre .0 in
+    omega (arith, p .model .costs .legality .candidates .positions-long, p .to-end, a .pre .1 .1, a .good)
 
 shared-slice-read-p : tie.Need-shared-slice-read-p
-shared-slice-read-p c = let p = c .before .before .before .before .before .before .before .before .before .before .before .before .before .before .before .before .before .before .before .pre .0 in omega (arith, p .model .costs .legality .candidates .positions-long, p .to-end)
+shared-slice-read-p c =
+    let a = c .before .before .before .before .before .before .before .before .before .before .before .before .before .before .before .before .before .before .before .before in
+    let p = a .pre .0 in
+    omega (arith, p .model .costs .legality .candidates .positions-long, p .to-end, a .pre .1 .1)
 
 narrow-requires : tie.Need-narrow-requires
 narrow-requires c κs =
-    let a = c .before .before .before .before .before .before .before .before .before .before .before .before .before .before .before .before .before .before .before .before .before .before .before .before in
+    let a = c .before .before .before .before .before .before .before .before .before .before .before .before .before .before .before .before .before .before .before .before .before .before .before .before .before in
     let p = a .pre .0 in
     (sound-rows (p .model), (narrowing (p .model) (a .pre .1 .0), a .pre .1 .0 .rates-room))
 
 region-row-requires : tie.Need-region-row-requires
 region-row-requires c κs =
-    let a = c .before .before .before .before .before .before .before .before .before .before .before .before .before .before .before .before .before .before .before .before .before .before .before .before .before .before .before .before .before .before .before .before .before .before .before .before .before .before .before .before in
+    let a = c .before .before .before .before .before .before .before .before .before .before .before .before .before .before .before .before .before .before .before .before .before .before .before .before .before .before .before .before .before .before .before .before .before .before .before .before .before .before .before .before .before in
     let p = a .pre .0 in (
       record { sheet = p .sheet; evidence = evidence-of (p .model) (a .args .t) (p .from-one) (p .to-end) (c .before .before .before .before .before .before .before .before .before .before .before .before .before .before .before .narrow .ensures) },
       (a .pre .1 .1 .0, (a .pre .1 .1 .1 .0, (omega (arith, c .before .before .before .before .before .before .before .before .before .before .before .before .before .before .before .before .before .before .before .before .before .before .before .before .legal-row .ensures .0, a .pre .1 .1), a .pre .1 .1 .1 .1 .1))),
@@ -36,7 +42,7 @@ region-row-requires c κs =
 
 charge-row-requires : tie.Need-charge-row-requires
 charge-row-requires c κs =
-    let a = c .before .before .before .before .before .before .before .before .before .before .before .before .before .before .before .before .before .before .before .before .before .before .before .before .before .before .before .before .before .before .before .before .before .before .before .before .before .before .before .before .before .before .before .before in
+    let a = c .before .before .before .before .before .before .before .before .before .before .before .before .before .before .before .before .before .before .before .before .before .before .before .before .before .before .before .before .before .before .before .before .before .before .before .before .before .before .before .before .before .before .before .before .before in
     let p = a .pre .0 in (
       record {
         sheet = p .sheet;
@@ -71,7 +77,7 @@ same-length-7 c = search needs
 
 returns : tie.Need-returns
 returns c =
-    let a = c .before .before .before .before .before .before .before .before .before .before .before .before .before .before .before .before .before .before .before .before .before .before .before .before .before .before .before .before .before .before .before .before .before .before .before .before .before .before .before .before .before .before .before .before .before .before in
+    let a = c .before .before .before .before .before .before .before .before .before .before .before .before .before .before .before .before .before .before .before .before .before .before .before .before .before .before .before .before .before .before .before .before .before .before .before .before .before .before .before .before .before .before .before .before .before .before .before in
     λ sheet m to.
     let legal = c .before .before .before .before .before .before .before .before .before .before .before .before .before .before .before .before .before .before .before .before .before .before .before .before .before .before .before .before .before .before .legal-row .ensures .1 sheet (m .costs .legality) to in
     record {

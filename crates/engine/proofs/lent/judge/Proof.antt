@@ -16,19 +16,22 @@ is-chain-requires c κs = search needs
 slice-aggregate-walk : tie.Need-slice-aggregate-walk
 slice-aggregate-walk c = search needs
 
+slice-aggregate-walk-2 : tie.Need-slice-aggregate-walk-2
+slice-aggregate-walk-2 c = search needs
+
 walk-requires : tie.Need-walk-requires
 walk-requires c κs =
-    let p = c .before .before .before .before .before .before .before .before .before .before .before .before .before .before .before .before .before .before .before .before .before .before .before .before .before .pre in
+    let p = c .before .before .before .before .before .before .before .before .before .before .before .before .before .before .before .before .before .before .before .before .before .before .before .before .before .before .before .before .pre in
     record {
       sheet = p .sheet;
       model = p .ready .model;
-      is-chain = rw (ready-end (p .ready)) at (c .before .before .before .before .before .before .before .before .before .before .before .before .before .before .before .before .before .before .is-chain .ensures .0 (is-true (c .before .before .before .before .before .before .before .before .before .before .before .before .before .before .before .before .before .before .is-chain .result) (c .before .before .before .before .before .before .before .before .before .before .before .before .before .before .before .before .before .if1 .taken)));
+      is-chain = rw (ready-end (p .ready)) at (c .before .before .before .before .before .before .before .before .before .before .before .before .before .before .before .before .before .before .before .before .before .is-chain .ensures .0 (is-true (c .before .before .before .before .before .before .before .before .before .before .before .before .before .before .before .before .before .before .before .before .before .is-chain .result) (c .before .before .before .before .before .before .before .before .before .before .before .before .before .before .before .before .before .before .before .before .if1 .taken)));
     }
 
 returns : tie.Need-returns
 returns c =
     λ sheet r.
-    c .walk .ensures sheet (r .model) (rw (ready-end r) at (c .before .before .before .before .before .before .before .before .before .before .before .before .before .before .before .before .before .before .before .is-chain .ensures .0 (is-true (c .before .before .before .before .before .before .before .before .before .before .before .before .before .before .before .before .before .before .before .is-chain .result) (c .before .before .before .before .before .before .before .before .before .before .before .before .before .before .before .before .before .before .if1 .taken))))
+    c .walk .ensures sheet (r .model) (rw (ready-end r) at (c .before .before .before .before .before .before .before .before .before .before .before .before .before .before .before .before .before .before .before .before .before .before .is-chain .ensures .0 (is-true (c .before .before .before .before .before .before .before .before .before .before .before .before .before .before .before .before .before .before .before .before .before .before .is-chain .result) (c .before .before .before .before .before .before .before .before .before .before .before .before .before .before .before .before .before .before .before .before .before .if1 .taken))))
 
 returns-2 : tie.Need-returns-2
 returns-2 c =
@@ -38,4 +41,4 @@ returns-2 c =
 pub judge-spec : {M : Type 1} → statement M
 judge-spec =
     tie.close
-    (tie.spec sub-is-chain is-chain-requires slice-aggregate-walk walk-requires returns returns-2)
+    (tie.spec sub-is-chain is-chain-requires slice-aggregate-walk slice-aggregate-walk-2 walk-requires returns returns-2)

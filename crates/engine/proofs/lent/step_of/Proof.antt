@@ -31,7 +31,7 @@ slice-aggregate-steps-into-7 c = search needs
 
 steps-into-requires : tie.Need-steps-into-requires
 steps-into-requires c κs =
-    let p = c .before .before .before .before .before .before .before .before .before .before .before .before .before .before .before .before .before .pre in
+    let p = c .before .before .before .before .before .before .before .before .before .before .before .before .before .before .before .before .before .before .pre in
     let few = rows-few (p .0) in
     let low = target-low (p .0) in (
       p .0,
@@ -48,13 +48,13 @@ steps-into-requires c κs =
     )
 
 array-read-allowed : tie.Need-array-read-allowed
-array-read-allowed c = let p = c .before .before .before .before .before .before .before .before .before .before .before .before .before .before .before .before .before .before .before .before .before .before .before .before .before .pre in omega (arith, target-low (p .0), p .1)
+array-read-allowed c = let p = c .before .before .before .before .before .before .before .before .before .before .before .before .before .before .before .before .before .before .before .before .before .before .before .before .before .before .pre in omega (arith, target-low (p .0), p .1)
 
 mul-gain : tie.Need-mul-gain
-mul-gain c = let p = c .before .before .before .before .before .before .before .before .before .before .before .before .before .before .before .before .before .before .before .before .before .before .before .before .before .pre in omega (arith, target-low (p .0), p .1)
+mul-gain c = let p = c .before .before .before .before .before .before .before .before .before .before .before .before .before .before .before .before .before .before .before .before .before .before .before .before .before .before .pre in omega (arith, target-low (p .0), p .1)
 
 array-copy-out-gain : tie.Need-array-copy-out-gain
-array-copy-out-gain c = let p = c .before .before .before .before .before .before .before .before .before .before .before .before .before .before .before .before .before .before .before .before .before .before .before .before .before .pre in omega (arith, target-low (p .0), p .1)
+array-copy-out-gain c = let p = c .before .before .before .before .before .before .before .before .before .before .before .before .before .before .before .before .before .before .before .before .before .before .before .before .before .before .pre in omega (arith, target-low (p .0), p .1)
 
 returns : tie.Need-returns
 returns c = λ sheet m to. one-step (c .before .before .before .before .before .before .before .before .steps-into .ensures sheet m to) (c .gain .given)

@@ -23,14 +23,14 @@ use Rattle.engine.proofs.lent.walk.Statement.{statement}
 use Rattle.engine.proofs.lent.walk.Tie as tie
 
 abbrev Inv-loop : tie.InvT-loop
-Inv-loop kind position score rules table distance penalty first intron lines pairs at start end worth rate total used chain sum₀ k₀ sum k =
+Inv-loop kind position score rules table distance penalty first intron lines pairs at start end worth rate total used summed sums chain sum₀ k₀ sum k =
     ((0 < k) × (k ≤ length chain))
     × ((natAbs (toZ w64 sum) ≤ k * 2 ^ 50)
-    × ((sheet : Sheet) → Model sheet kind position score rules table distance penalty first intron lines pairs at start end worth rate total used → Chain (end-number sheet) chain
+    × ((sheet : Sheet) → Model sheet kind position score rules table distance penalty first intron lines pairs at start end worth rate total used summed sums → Chain (end-number sheet) chain
     → Walked sheet chain k (toZ w64 sum)))
 
 abbrev μ-loop : tie.MeasureT-loop
-μ-loop kind position score rules table distance penalty first intron lines pairs at start end worth rate total used chain sum₀ k₀ sum k = length chain - k
+μ-loop kind position score rules table distance penalty first intron lines pairs at start end worth rate total used summed sums chain sum₀ k₀ sum k = length chain - k
 
 -- the step is legal, and what it gains fits
 allowed : (c : tie.After-struct-told Inv-loop μ-loop) → T (c .before .before .before .step-of .result .legal)
@@ -40,32 +40,32 @@ fits-of : (c : tie.After-struct-told Inv-loop μ-loop) → SFits w64 (c .before 
 fits-of c = record { sfits = c .struct-told .given .1 .0 .1 }
 
 loop-holds : tie.Need-loop-holds Inv-loop μ-loop
-loop-holds c = let p = c .before .before .before .before .before .before .before .before .before .before .before .pre in ((omega arith, omega (arith, not-empty _ _ (p .is-chain))), (omega arith, λ sheet m h. walked-none sheet _))
+loop-holds c = let p = c .before .before .before .before .before .before .before .before .before .before .before .before .pre in ((omega arith, omega (arith, not-empty _ _ (p .is-chain))), (omega arith, λ sheet m h. walked-none sheet _))
 
 sub-step-of : tie.Need-sub-step-of Inv-loop μ-loop
 sub-step-of c = search needs
 
 mul-step-of : tie.Need-mul-step-of Inv-loop μ-loop
-mul-step-of c = let p = c .before .before .before .before .before .before .before .before .before .before .before .before .before .pre in omega (arith, chain-short (p .model .costs .legality .ranged) (p .is-chain))
+mul-step-of c = let p = c .before .before .before .before .before .before .before .before .before .before .before .before .before .before .pre in omega (arith, chain-short (p .model .costs .legality .ranged) (p .is-chain))
 
 shared-slice-read-step-of : tie.Need-shared-slice-read-step-of Inv-loop μ-loop
 shared-slice-read-step-of c = search needs
 
 cast-step-of : tie.Need-cast-step-of Inv-loop μ-loop
-cast-step-of c = omega (arith, c .shared-slice-known12 .given (c .before .before .loop .k - 1))
+cast-step-of c = omega (arith, c .shared-slice-known13 .given (c .before .before .loop .k - 1))
 
 mul-step-of-2 : tie.Need-mul-step-of-2 Inv-loop μ-loop
-mul-step-of-2 c = let p = c .before .before .before .before .before .before .before .before .before .before .before .before .before .before .pre in omega (arith, chain-short (p .model .costs .legality .ranged) (p .is-chain))
+mul-step-of-2 c = let p = c .before .before .before .before .before .before .before .before .before .before .before .before .before .before .before .pre in omega (arith, chain-short (p .model .costs .legality .ranged) (p .is-chain))
 
 shared-slice-read-step-of-2 : tie.Need-shared-slice-read-step-of-2 Inv-loop μ-loop
 shared-slice-read-step-of-2 c = search needs
 
 cast-step-of-2 : tie.Need-cast-step-of-2 Inv-loop μ-loop
-cast-step-of-2 c = omega (arith, c .shared-slice-known13 .given (c .before .before .before .loop .k))
+cast-step-of-2 c = omega (arith, c .shared-slice-known14 .given (c .before .before .before .loop .k))
 
 step-of-requires : tie.Need-step-of-requires Inv-loop μ-loop
 step-of-requires c κs =
-    let p = c .before .before .before .before .before .before .before .before .before .before .before .before .before .before .before .pre in
+    let p = c .before .before .before .before .before .before .before .before .before .before .before .before .before .before .before .before .pre in
     let l = c .before .before .before .loop in
     let up = rises-at _ _ (p .is-chain) (l .k) (l .inv .0 .0) (c .before .before .loop-test .taken) in
     (record { sheet = p .sheet; model = p .model; from-one = omega arith; to-end = entry-to _ _ (p .is-chain) (l .k) (c .before .before .loop-test .taken) }, up)
@@ -80,7 +80,7 @@ returns c =
 plus-requires : tie.Need-plus-requires Inv-loop μ-loop
 plus-requires c κs =
     let f = fits-of c in
-    let p = c .before .before .before .before .before .before .before .before .before .before .before .before .before .before .before .before .before .before .before .pre in
+    let p = c .before .before .before .before .before .before .before .before .before .before .before .before .before .before .before .before .before .before .before .before .pre in
     let l = c .before .before .before .before .before .before .before .loop in
     let lt = c .before .before .before .before .before .before .loop-test .taken in
     let h = c .before .before .before .step-of .ensures (p .sheet) (p .model) (entry-to _ _ (p .is-chain) (l .k) lt) in
@@ -88,14 +88,14 @@ plus-requires c κs =
     rw (toZ-ofZ f) (small-fits _ (1027 * 2 ^ 50) (omega (arith, small, lt, chain-short (p .model .costs .legality .ranged) (p .is-chain))) (omega arith))
 
 add-k : tie.Need-add-k Inv-loop μ-loop
-add-k c = let p = c .before .before .before .before .before .before .before .before .before .before .before .before .before .before .before .before .before .before .before .before .pre in omega (arith, c .before .before .before .before .before .before .before .loop-test .taken, chain-short (p .model .costs .legality .ranged) (p .is-chain))
+add-k c = let p = c .before .before .before .before .before .before .before .before .before .before .before .before .before .before .before .before .before .before .before .before .before .pre in omega (arith, c .before .before .before .before .before .before .before .loop-test .taken, chain-short (p .model .costs .legality .ranged) (p .is-chain))
 
 loop-less : tie.Need-loop-less Inv-loop μ-loop
 loop-less c = omega (arith, c .before .before .before .before .before .before .before .loop-test .taken)
 
 loop-again : tie.Need-loop-again Inv-loop μ-loop
 loop-again c =
-    let p = c .before .before .before .before .before .before .before .before .before .before .before .before .before .before .before .before .before .before .before .before .pre in
+    let p = c .before .before .before .before .before .before .before .before .before .before .before .before .before .before .before .before .before .before .before .before .before .pre in
     let l = c .before .before .before .before .before .before .before .before .loop in
     let lt = c .before .before .before .before .before .before .before .loop-test .taken in
     let h = c .before .before .before .before .step-of .ensures (p .sheet) (p .model) (entry-to _ _ (p .is-chain) (l .k) lt) in
