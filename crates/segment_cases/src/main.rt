@@ -2,7 +2,6 @@
 
 ghost use mathlib.Core.Path.{_≡_};
 ghost use Prim.Native.Nat.{_≤_};
-ghost use lib.IntN.{natAbs};
 ghost use Rattle.gaze.specs.SegmentScore.{segment-score};
 ghost use Rattle.segment_cases.specs.Cases.{cases};
 
@@ -29,21 +28,11 @@ fn score_of(q: gaze::Qualifier, s: u32, t: u32) -> i64
     segment::region_score(&kind, &start, &end, &score, 11, q, s, t)
 }
 
-fn magnitude(z: i64) -> u64
-    ensures { λ r. ⌜ r ≡ natAbs z ⌝ }
-{
-    if 0 <= z {
-        return z as u64;
-    }
-    (-1 - z) as u64 + 1
-}
-
 fn print_number(z: i64) {
-    if z < 0 {
-        io::write_all(1, b"-");
-    }
-    io::print_decimal(1, magnitude(z));
-    io::write_all(1, b"\n");
+    let mut line = [0u8; 21];
+    let end = printing::push_signed(&mut line, 0, z);
+    let size = printing::push(&mut line, end, b"\n");
+    io::write_all(1, &line[..size]);
 }
 
 fn print_case(kind: u32, method: u32, phase: u32, matching: u32, s: u32, t: u32)

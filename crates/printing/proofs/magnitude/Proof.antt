@@ -1,9 +1,9 @@
 -- `magnitude` is right because a negative number is turned over to -1 - z, which is one less than its magnitude.
 use mathlib.Core.Path.{refl}
 use mir.Facts.{toZ-ofZ}
-use Rattle.segment_cases.proofs.Magnitudes.{from-zero, Below, below-zero}
-use Rattle.segment_cases.proofs.magnitude.Statement.{statement}
-use Rattle.segment_cases.proofs.magnitude.Tie as tie
+use Rattle.printing.proofs.Magnitudes.{from-zero, Below, below-zero}
+use Rattle.printing.proofs.magnitude.Statement.{statement}
+use Rattle.printing.proofs.magnitude.Tie as tie
 
 cast-result : tie.Need-cast-result
 cast-result c =
