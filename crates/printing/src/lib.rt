@@ -84,12 +84,13 @@ pub fn push_lines(
     end
 }
 
-fn push_offset(out: &mut [u8], at: usize, offset: usize) -> usize
+// A number behind one space.
+pub fn push_field(out: &mut [u8], at: usize, n: u64) -> usize
     requires { ⌜ at ≤ length (now out) ⌝ }
     ensures { λ r. ⌜ Counts r (now (out .exit)) ⌝ }
 {
     let end = push(out, at, b" ");
-    push_number(out, end, offset as u64)
+    push_number(out, end, n)
 }
 
 // The last line of a sheet whose groups begin at these offsets.
@@ -106,10 +107,10 @@ pub fn push_trailer(
     ensures { λ r. ⌜ Counts r (now (out .exit)) ⌝ }
 {
     let mut end = push(out, at, b"T");
-    end = push_offset(out, end, p);
-    end = push_offset(out, end, r);
-    end = push_offset(out, end, q);
-    end = push_offset(out, end, f);
-    end = push_offset(out, end, s);
+    end = push_field(out, end, p as u64);
+    end = push_field(out, end, r as u64);
+    end = push_field(out, end, q as u64);
+    end = push_field(out, end, f as u64);
+    end = push_field(out, end, s as u64);
     push(out, end, b"\n")
 }
