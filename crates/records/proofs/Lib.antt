@@ -1,0 +1,6 @@
+pub mod Faults
+pub mod Columns
+pub mod Fronts
+pub mod Rows
+pub mod While
+pub mod Worked
