@@ -1,6 +1,6 @@
 -- The columns of records: one more record in them, and that records in range are what the region scorer asks for.
 use mathlib.Core.Path.{_≡_, refl, sym, ap, ap₂, _∙_, subst}
-use mathlib.Core.Bool.{Bool, true, _&&_}
+use mathlib.Core.Bool.{true, _&&_}
 use mathlib.Core.List.{List, [], _∷_, _++_}
 use Prim.Native.Nat.{ℕ, suc, _+_, _≤_, _<_}
 use native.Mathlib.Omega.{arith}
@@ -8,21 +8,19 @@ use borrow.Author.Tests.{leb-true}
 use lib.Dec.{leb}
 use lib.IntN.{ℤ, pos}
 use lib.ListN.{length, getD, take, set, length-set}
-use lib.Seq.{length-take-le, take-suc, getD-take, getD-set-same, getD-set-other}
-use lib.Signed.{leZ}
+use lib.Seq.{length-take-le, take-suc, getD-set-same, getD-set-other}
 use Rattle.gaze.specs.declared.Segment.{Segment}
-use Rattle.gaze.specs.Lists.{listed}
+use Rattle.gaze.specs.Lists.{Each, listed}
 use Rattle.gaze.specs.Columns.{segment-at, Segments}
-use Rattle.gaze.proofs.ListLaws.{listed-same, listed-at}
+use Rattle.gaze.specs.Ranges.{SegmentRanges}
+use Rattle.gaze.proofs.ListLaws.{listed-same}
 use Rattle.text.proofs.Digits.{and-both}
 use Rattle.kinds.specs.declared.Letter.the-variants.{Q}
-use Rattle.kinds.specs.Kinds.{between, thousandths, in-range}
-use Rattle.kinds.proofs.Ranges.{whole-of, thousandths-of}
-use Rattle.rows.specs.Rows.{Good}
+use Rattle.kinds.specs.Kinds.{in-range}
 use Rattle.segment.specs.Region.{Region}
+use Rattle.segment.proofs.Choosing.{ranges-sound}
 use Rattle.records.specs.declared.Region as Regions
 use Rattle.records.specs.Held.{blank, Long}
-use Rattle.records.specs.Records.{row-of, record-in-range}
 use Rattle.records.specs.Answers.{qualifier-of, line-of, region-in-range}
 
 listed-next : (f : ℕ → Segment) (k : ℕ) → listed f 0 (suc k) ≡ listed f 0 k ++ (f k ∷ [])
@@ -94,30 +92,6 @@ module _ (rows : List Segment) (kinds starts ends : List ℕ) (scores : List ℤ
             e ∙ (ap₂ (λ (l : List Segment) (x : Segment). l ++ (x ∷ [])) front here ∙ (sym (listed-next new k) ∙ ap (listed new 0) (sym one-more)))
 
 -- ---- what the scorer asks for
-pub record-good : (g : Segment) → record-in-range g ≡ true → Good 10000000 (g .start) (g .end) (g .score)
-unfolding in-range row-of
-record-good g e =
-    let scored = and-both (kind && starts && ends && rising) (thousandths (g .score)) e in
-    let risen = and-both (kind && starts && ends) rising (scored .0) in
-    let ended = and-both (kind && starts) ends (risen .0) in
-    record {
-      ordered = leb-true (g .start) (g .end) (risen .1);
-      bounded = whole-of 1 4000000 (pos (g .end)) (ended .1) .high;
-      small = thousandths-of (g .score) (scored .1);
-    }
-  where
-    kind : Bool
-    kind = between (pos 0) (pos 15) (pos (g .kind))
-
-    starts : Bool
-    starts = between (pos 1) (pos 4000000) (pos (g .start))
-
-    ends : Bool
-    ends = between (pos 1) (pos 4000000) (pos (g .end))
-
-    rising : Bool
-    rising = leZ (pos (g .start)) (pos (g .end))
-
 positions : (region : Regions.Region) → region-in-range region ≡ true → (region .source ≤ region .target) × (region .target ≤ 4000000)
 unfolding region-in-range
 positions region e =
@@ -130,23 +104,12 @@ module _ (rows : List Segment) (n : ℕ) (long : n ≤ length rows) {kinds start
   pub columns-are : take n rows ≡ listed (segment-at kinds starts ends scores) 0 n
   columns-are = s .is ∙ ap (listed (segment-at kinds starts ends scores) 0) (length-take-le n rows long)
 
-  column-at : (i : ℕ) → i < n → getD rows i blank ≡ segment-at kinds starts ends scores i
-  column-at i h =
-      let e : 0 + i ≡ i = omega arith in
-      sym (getD-take n rows i blank h) ∙ (ap (λ (l : List Segment). getD l i blank) columns-are ∙ (listed-at (segment-at kinds starts ends scores) 0 n blank i h ∙ ap (segment-at kinds starts ends scores) e))
-
-  pub scorable : (region : Regions.Region) → region-in-range region ≡ true → n ≤ 1024 → ((i : ℕ) → i < n → record-in-range (getD rows i blank) ≡ true) → Long kinds starts ends scores
+  pub scorable : (region : Regions.Region) → region-in-range region ≡ true → n ≤ 1024 → Each (SegmentRanges 4000000) (take n rows) → Long kinds starts ends scores
       → Region kinds starts ends scores n (region .source) (region .target)
   scorable region e few each all =
       let p = positions region e in
       record {
-        sound = record {
-          ordered = omega arith;
-          starts-long = omega arith;
-          ends-long = omega arith;
-          scores-long = omega arith;
-          each = λ i l u. subst (λ (g : Segment). Good 10000000 (g .start) (g .end) (g .score)) (column-at i u) (record-good (getD rows i blank) (each i u));
-        };
+        sound = ranges-sound 4000000 n kinds starts ends scores (omega arith) (omega arith) (omega arith) (omega arith) (subst (Each (SegmentRanges 4000000)) columns-are each);
         kinds-long = omega arith;
         few = few;
         ordered = p .0;

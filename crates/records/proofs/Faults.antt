@@ -10,11 +10,14 @@ use lib.Dec.{leb, eqb}
 use lib.ListN.{length, getD, take, drop, drop-of-length-le}
 use lib.Seq.{length-take-le, drop-cons, getD-take}
 use Rattle.gaze.specs.declared.Segment.{Segment}
+use Rattle.gaze.specs.Lists.{Each}
+use Rattle.gaze.specs.Ranges.{SegmentRanges}
 use Rattle.kinds.specs.declared.Letter.the-variants.{S}
 use Rattle.kinds.specs.Order.{keys-of, order, disorder}
 use Rattle.records.specs.declared.Fault.{Fault}
 use Rattle.records.specs.Held.{blank}
 use Rattle.records.specs.Records.{row-of, record-in-range, record-fault, no-fault, first-fault}
+use Rattle.records.proofs.Records.{record-ranges}
 
 -- ---- one record
 module _ (passed : ℕ) (before g : Segment) where
@@ -54,7 +57,7 @@ module _ (passed : ℕ) (before g : Segment) (l : List Segment) where
   unfolding first-fault
   stops n = rw (ne-eqb (record-fault passed before g) 0 n)
 
-  goes-on : record-fault passed before g ≡ 0 → first-fault passed before (g ∷ l) ≡ first-fault (passed + 1) g l
+  pub goes-on : record-fault passed before g ≡ 0 → first-fault passed before (g ∷ l) ≡ first-fault (passed + 1) g l
   unfolding first-fault
   goes-on e = rw (eq-eqb (record-fault passed before g) 0 e)
 
@@ -82,7 +85,7 @@ module _ (rows : List Segment) (n : ℕ) (long : n ≤ length rows) (passed : �
     fault-later e = ap (first-fault passed before) opened ∙ goes-on passed before (getD rows passed blank) (drop (passed + 1) (take n rows)) e
 
 -- ---- a front
-abbrev Clean : Fault → Type 0
+abbrev pub Clean : Fault → Type 0
 Clean f = f .number ≡ 0
 
 -- whether record-fault is 0, and what follows of the first fault
@@ -102,16 +105,11 @@ none-below : {n : ℕ} → n < 0 → ⊥
 none-below h = omega arith
 
 -- where nothing is wrong, every record is in range
-pub all-ranged : (passed : ℕ) (before : Segment) (l : List Segment) → Clean (first-fault passed before l)
-    → (i : ℕ) → i < length l → record-in-range (getD l i blank) ≡ true
-all-ranged passed before [] c i h = absurd (none-below h)
-all-ranged passed before (g ∷ l) c zero h = ranged passed before g (clean-first passed before g l c)
-all-ranged passed before (g ∷ l) c (suc i) h = all-ranged (passed + 1) g l (clean-rest passed before g l c) i (omega arith)
-
-pub ranged-front : (rows : List Segment) (n : ℕ) → n ≤ length rows → Clean (first-fault 0 blank (take n rows))
-    → (i : ℕ) → i < n → record-in-range (getD rows i blank) ≡ true
-ranged-front rows n long c i h =
-    rw (getD-take n rows i blank h) at (all-ranged 0 blank (take n rows) c i (rw (length-take-le n rows long) h))
+pub all-ranged : (passed : ℕ) (before : Segment) (l : List Segment) → Clean (first-fault passed before l) → Each (SegmentRanges 4000000) l
+unfolding Each
+all-ranged passed before [] c = tt
+all-ranged passed before (g ∷ l) c =
+    (record-ranges g (ranged passed before g (clean-first passed before g l c)), all-ranged (passed + 1) g l (clean-rest passed before g l c))
 
 -- a fault at the front decides
 pub front-decides : (passed n : ℕ) (before : Segment) (l : List Segment) → (Clean (first-fault passed before (take n l)) → ⊥)

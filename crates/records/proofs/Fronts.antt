@@ -1,5 +1,5 @@
 -- Laws of `held`: the array that fills record by record, and its front. What is said of a region, by what is known of the front of the records.
-use mathlib.Core.Path.{_≡_, refl, sym, ap, _∙_, subst}
+use mathlib.Core.Path.{_≡_, refl, sym, ap, _∙_}
 use mathlib.Core.Logic.{⊎-elim}
 use mathlib.Core.Bool.{true, false}
 use mathlib.Core.List.{List, [], _∷_, _++_}
@@ -16,7 +16,6 @@ use Rattle.gaze.specs.SegmentScore.{segment-score}
 use Rattle.gaze.proofs.Tests.{at-or-below}
 use Rattle.records.specs.declared.Fault.{Fault}
 use Rattle.records.specs.declared.Region.{Region}
-use Rattle.records.specs.declared.Regional.{Regional}
 use Rattle.records.specs.declared.Regional.the-variants.{Refused, Scored}
 use Rattle.records.specs.Held.{blank, held}
 use Rattle.records.specs.Records.{first-fault}

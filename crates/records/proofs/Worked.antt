@@ -1,6 +1,6 @@
 -- Worked examples of a region over lent records, each a theorem about the definitions: the scope's starred scores, and the edges of each check.
 use mathlib.Core.Path.{_≡_, refl}
-use mathlib.Core.List.{List, [], _∷_}
+use mathlib.Core.List.{[], _∷_}
 use Prim.Native.Nat.{ℕ}
 use lib.IntN.{ℤ, pos, negsuc}
 use Rattle.gaze.specs.declared.Segment.{Segment}

@@ -18,7 +18,8 @@ row-of g = pos (g .kind) ∷ pos (g .start) ∷ pos (g .end) ∷ g .score ∷ re
 abbrev pub record-in-range : Segment → Bool
 record-in-range g = in-range S 4000000 (row-of g)
 
--- What is wrong with a record, where so many stand before it, right before it the record `before`: 7, 4 or 5, looked for in this order, or 0.
+-- What is wrong with a record after so many others, the last of which is `before`: 7, 4 or 5, looked for in this order, or 0. Where there are none, `before` is not
+-- looked at.
 unfoldable pub record-fault : ℕ → Segment → Segment → ℕ
 record-fault passed before g =
     cond (leb (most-of S) passed) 7

@@ -4,13 +4,15 @@
 ghost use mathlib.Core.Path.{_≡_};
 ghost use mathlib.Core.Bool.{true};
 ghost use mathlib.Core.List.{List};
-ghost use Prim.Native.Nat.{ℕ, _<_, _≤_, min};
-ghost use lib.ListN.{getD, length, take};
+ghost use Prim.Native.Nat.{_<_, _≤_, min};
+ghost use lib.ListN.{length, take};
 ghost use Rattle.gaze.specs.declared.Segment.{Segment};
+ghost use Rattle.gaze.specs.Lists.{Each};
 ghost use Rattle.gaze.specs.Columns.{Segments};
+ghost use Rattle.gaze.specs.Ranges.{SegmentRanges};
 ghost use Rattle.gaze.specs.SegmentScore.{segment-score};
 ghost use Rattle.records.specs.Held.{blank, held, Long};
-ghost use Rattle.records.specs.Records.{row-of, record-in-range, record-fault, first-fault};
+ghost use Rattle.records.specs.Records.{row-of, record-fault, first-fault};
 ghost use Rattle.records.specs.Answers.{qualifier-of, line-of, region-in-range, region-answer};
 use gaze::Qualifier;
 use gaze::Segment;
@@ -193,7 +195,7 @@ fn spread(
 }
 
 fn score(region: Region, rows: [Segment; 1024], n: usize) -> i64
-    requires { ⌜ (region-in-range region ≡ true) × (n ≤ 1024) × ((i : ℕ) → i < n → record-in-range (getD rows i blank) ≡ true) ⌝ }
+    requires { ⌜ (region-in-range region ≡ true) × (n ≤ 1024) × Each (SegmentRanges 4000000) (take n rows) ⌝ }
     ensures { λ r. ⌜ r ≡ segment-score (qualifier-of region) (region .source) (region .target) (take n rows) ⌝ }
 {
     let mut kinds = [0u32; 1024];

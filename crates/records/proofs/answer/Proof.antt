@@ -2,13 +2,14 @@
 -- is one too many.
 use mathlib.Core.Path.{sym, ap, _∙_}
 use native.Mathlib.Omega.{arith}
+use lib.ListN.{take}
 use Rattle.whole.proofs.Bits.{back}
 use Rattle.gaze.specs.SegmentScore.{segment-score}
 use Rattle.records.specs.declared.Fault.{Fault}
 use Rattle.records.specs.Held.{blank}
 use Rattle.records.specs.Records.{first-fault}
 use Rattle.records.specs.Answers.{qualifier-of}
-use Rattle.records.proofs.Faults.{ranged-front}
+use Rattle.records.proofs.Faults.{all-ranged}
 use Rattle.records.proofs.Fronts.{front, out-of-range, refused, too-many, scored}
 use borrow.Author.Needs.{needs}
 use Rattle.records.proofs.answer.Statement.{statement}
@@ -47,7 +48,7 @@ score-requires c κs =
     let f = c .before .before .before .first-fault .ensures in (
       sym r ∙ c .before .before .before .before .before .if1 .taken,
       omega arith,
-      ranged-front (s .args .rows) (n .result) (omega arith) (sym (ap (λ (g : Fault). g .number) f) ∙ c .before .if2 .left),
+      all-ranged 0 blank (take (n .result) (s .args .rows)) (sym (ap (λ (g : Fault). g .number) f) ∙ c .before .if2 .left),
     )
 
 returns-3 : tie.Need-returns-3

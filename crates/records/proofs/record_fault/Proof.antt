@@ -1,6 +1,5 @@
 -- `record_fault` is right because it makes the checks of the definition in its order; that there is room is asked for.
 use mathlib.Core.Path.{_≡_, sym, ap, ap₂, _∙_}
-use mathlib.Core.Bool.{Bool}
 use mathlib.Core.List.{List}
 use lib.IntN.{ℤ}
 use Rattle.kinds.specs.declared.Letter.the-variants.{S}

@@ -1,9 +1,7 @@
 -- `region_in_range` is right because it asks what the definition asks, the Q line's ranges of the line that the definition holds to them.
 use mathlib.Core.Path.{_≡_, ap, _∙_}
 use mathlib.Core.Bool.{Bool, _&&_}
-use mathlib.Core.List.{List}
 use lib.Dec.{leb}
-use lib.IntN.{ℤ}
 use Rattle.kinds.specs.declared.Letter.the-variants.{Q}
 use Rattle.kinds.specs.Kinds.{in-range}
 use Rattle.records.specs.Answers.{qualifier-of, line-of, region-in-range}
