@@ -1,4 +1,4 @@
--- `lk_region_score` is right because `load` hands over the front of the records and `region_reply` speaks of every list with that front. A slice of structs is not
+-- `lk_region_score` is right because `load` hands over the front of the records and `region_score` speaks of every list with that front. A slice of structs is not
 -- covered, so the MIR is walked by hand, three calls and no loop. The slice reference is Copy: what it owns is had twice. One copy goes to `load`, beside the
 -- lifetime's token, which comes back, and one is kept for the exit. The region is plain data: what it owns is made anew where it is asked for.
 use mathlib.Core.Path.{_≡_, refl, _∙_, ap}
@@ -55,13 +55,13 @@ use Rattle.records.proofs.load.Symbol as load-def
 use Rattle.records.proofs.load.Symbol.{name as #records·load}
 use Rattle.records.proofs.load.Met as load-thm
 use Rattle.lent.specs.declared.Reply.{Reply}
-use Rattle.lent.specs.Replies.{reply-of}
+use Rattle.lent.specs.Replies.{region-reply}
 use Rattle.lent.proofs.Reply as S
 use Rattle.lent.proofs.Reply.Laws as S′
-use Rattle.lent.proofs.region_reply as replied
-use Rattle.lent.proofs.region_reply.Symbol as reply-def
-use Rattle.lent.proofs.region_reply.Symbol.{name as #lent·region-reply}
-use Rattle.lent.proofs.region_reply.Met as reply-thm
+use Rattle.lent.proofs.region_score as scored
+use Rattle.lent.proofs.region_score.Symbol as score-def
+use Rattle.lent.proofs.region_score.Symbol.{name as #lent·region-score}
+use Rattle.lent.proofs.region_score.Met as score-thm
 use Rattle.lent.proofs.lk_region_score.Key.{name as #lent·lk-region-score}
 use Rattle.lent.proofs.lk_region_score as f
 use Rattle.lent.proofs.lk_region_score.Statement as stated
@@ -78,8 +78,8 @@ module _ {M : Type 1} (𝓤 : URA M) (H : Heap 𝓤) (A : Atoms 𝓤) (mem : Mem
   abbrev Load : Contract 𝓤
   Load = tripleOf 𝓤 H A loaded.signature (loaded.spec 𝓤 H A mem run)
 
-  abbrev Replied : Contract 𝓤
-  Replied = tripleOf 𝓤 H A replied.signature (replied.spec 𝓤 H A mem run)
+  abbrev Scored : Contract 𝓤
+  Scored = tripleOf 𝓤 H A scored.signature (scored.spec 𝓤 H A mem run)
 
 module _ {M : Type 1} (𝓤 : URA M) (H : Heap 𝓤) (A : Atoms 𝓤) (W : Given 𝓤 H A) (mem : Memory → SProp 𝓤) (run : Routine → Fun 𝓤) (κ : Lft) (q : Share) (b o : ℕ) (γ : GName) (ys : List Segment) (d : Region) where
   abbrev x : RefT (List Segment)
@@ -109,7 +109,7 @@ module _ {M : Type 1} (𝓤 : URA M) (H : Heap 𝓤) (A : Atoms 𝓤) (W : Given
   Own = ShrSlice (named 0) κ R .own x (mach ∷ [])
 
   -- from what is had at exit to what the contract asks for
-  exits : Is Q.the-row d (asked ∷ []) → (r : Reply) (v : Val) → r ≡ reply-of (region-answer d ys) → ent 𝓤 (⋆ 𝓤 H A (‵ (S.the-row .own r (v ∷ [])) ∷ (‵ (flft κ q) ⊛ ‵ ftrue) ∷ ‵ Own ∷ [])) (Post v)
+  exits : Is Q.the-row d (asked ∷ []) → (r : Reply) (v : Val) → r ≡ region-reply (region-answer d ys) → ent 𝓤 (⋆ 𝓤 H A (‵ (S.the-row .own r (v ∷ [])) ∷ (‵ (flft κ q) ⊛ ‵ ftrue) ∷ ‵ Own ∷ [])) (Post v)
   exits is-d r v e =
       qed W (‵ (S.the-row .own r (v ∷ [])) ∷ (‵ (flft κ q) ⊛ ‵ ftrue) ∷ ‵ Own ∷ []) ∵
       suffices ! _ (ends-at 𝓤 H A f.ended stayed (f.clauses 𝓤 H A mem run) W bound v r (tt, (tt, tt)) (tt, (tt, tt))) $ says ! e $
@@ -143,26 +143,26 @@ module _ {M : Type 1} (𝓤 : URA M) (H : Heap 𝓤) (A : Atoms 𝓤) (W : Given
   said-load : (n : ℕ) (zs : List Segment) → ent 𝓤 (ensured 𝓤 H A loaded.ended (loaded.clauses 𝓤 H A mem run) (κ, tt) (x, (n, tt)) tt zs) (fact 𝓤 (zs ≡ held n ys))
   said-load n zs = exE 𝓤 _ (λ ws. snd∗ 𝓤 (sem 𝓤 H A (lasts loaded.ended (κ, tt) (x, (n, tt)) ws)) (fact 𝓤 (zs ≡ held n ys)))
 
-  abbrev to-reply : List Segment → Val → Replied 𝓤 H A mem run .Ghost
-  to-reply zs u = ((tt, tt, tt, (d, (zs, (length ys, tt))), (asked ∷ [], (u ∷ [], (len ∷ [], tt)))), tt)
+  abbrev to-score : List Segment → Val → Scored 𝓤 H A mem run .Ghost
+  to-score zs u = ((tt, tt, tt, (d, (zs, (length ys, tt))), (asked ∷ [], (u ∷ [], (len ∷ [], tt)))), tt)
 
-  asks-reply : length ys < 2 ^ 64 → Is Q.the-row d (asked ∷ []) → (zs : List Segment) (u : Val) → ent 𝓤 (sem 𝓤 H A (Array R 1024 .own zs (u ∷ []))) (Replied 𝓤 H A mem run .pre (to-reply zs u))
-  asks-reply g is-d zs u =
+  asks-score : length ys < 2 ^ 64 → Is Q.the-row d (asked ∷ []) → (zs : List Segment) (u : Val) → ent 𝓤 (sem 𝓤 H A (Array R 1024 .own zs (u ∷ []))) (Scored 𝓤 H A mem run .pre (to-score zs u))
+  asks-score g is-d zs u =
       qed W (‵ (Array R 1024 .own zs (u ∷ [])) ∷ []) ∵ nothing ! $ owned ! usize (Is usize) (uint-makes 𝓤 H A W w64) (length ys) _ (refl, g) $ fjoin ! $ move ! (1 ∷ 0 ∷ []) $ fjoin ! $
       owned ! Q.the-row (Is Q.the-row) (LL.makes Q.the-type Q′.the-plain 𝓤 H A) d _ is-d $ fjoin ! $ nothing ! $ join ! $ frame ! $ done !
 
-  -- what `region_reply` says of its result
+  -- what `region_score` says of its result
   abbrev Says : List Segment → Reply → Type 0
-  Says zs r = (records : List Segment) → length records ≡ length ys → zs ≡ held (min (length ys) 1024) records → r ≡ reply-of (region-answer d records)
+  Says zs r = (records : List Segment) → length records ≡ length ys → zs ≡ held (min (length ys) 1024) records → r ≡ region-reply (region-answer d records)
 
-  said-reply : (zs : List Segment) (r : Reply) → ent 𝓤 (ensured 𝓤 H A replied.ended (replied.clauses 𝓤 H A mem run) tt (d, (zs, (length ys, tt))) tt r) (fact 𝓤 (Says zs r))
-  said-reply zs r = exE 𝓤 _ (λ ws. snd∗ 𝓤 (sem 𝓤 H A (lasts replied.ended tt (d, (zs, (length ys, tt))) ws)) (fact 𝓤 (Says zs r)))
+  said-score : (zs : List Segment) (r : Reply) → ent 𝓤 (ensured 𝓤 H A scored.ended (scored.clauses 𝓤 H A mem run) tt (d, (zs, (length ys, tt))) tt r) (fact 𝓤 (Says zs r))
+  said-score zs r = exE 𝓤 _ (λ ws. snd∗ 𝓤 (sem 𝓤 H A (lasts scored.ended tt (d, (zs, (length ys, tt))) ws)) (fact 𝓤 (Says zs r)))
 
   -- the result is right of the records themselves
-  is-reply : (n : ℕ) (zs : List Segment) (r : Reply) → Took n → zs ≡ held n ys → Says zs r → r ≡ reply-of (region-answer d ys)
+  is-reply : (n : ℕ) (zs : List Segment) (r : Reply) → Took n → zs ≡ held n ys → Says zs r → r ≡ region-reply (region-answer d ys)
   is-reply n zs r took e says-r = says-r ys refl (e ∙ ap (λ (m : ℕ). held m ys) took)
 
-  module _ (C : Calls 𝓤 H) (Λ : Loops 𝓤 H) (fm : FmC 𝓤 H (W .laws) C) (known-taken : Triple 𝓤 (C #records·taken) (Taken 𝓤 H A mem run)) (known-load : Triple 𝓤 (C #records·load) (Load 𝓤 H A mem run)) (known-reply : Triple 𝓤 (C #lent·region-reply) (Replied 𝓤 H A mem run)) where
+  module _ (C : Calls 𝓤 H) (Λ : Loops 𝓤 H) (fm : FmC 𝓤 H (W .laws) C) (known-taken : Triple 𝓤 (C #records·taken) (Taken 𝓤 H A mem run)) (known-load : Triple 𝓤 (C #records·load) (Load 𝓤 H A mem run)) (known-score : Triple 𝓤 (C #lent·region-score) (Scored 𝓤 H A mem run)) where
     -- the MIR, call after call
     walk : Is Q.the-row d (asked ∷ []) → Room R (length ys) → ent 𝓤 (onEntry 𝓤 H A f.signature (κ, tt) (q, tt) (d, (x, tt)) at) (WpFn 𝓤 H C Λ code.function (asked ∷ mach ∷ []) Post)
     walk is-d g =
@@ -186,13 +186,13 @@ module _ {M : Type 1} (𝓤 : URA M) (H : Heap 𝓤) (A : Atoms 𝓤) (W : Given
         split ! $ move ! (1 ∷ []) $ use1 W (raw (fact 𝓤 (zs ≡ held n ys))) (said-load n zs) $ heard ! (zs ≡ held n ys) (λ e. split ! $ move ! (1 ∷ []) $
         peeks ! (Array R 1024) (Is (Array R 1024)) (shows 𝓤 H A (Array R 1024)) zs (v ∷ []) (λ is-zs.
         land ! (from ! (stop !)) (init ! 3 refl (array-typed 𝓤 H A W 1024 zs v is-zs)) $
-        -- region_reply(region, rows, len)
+        -- region_score(region, rows, len)
         -- [what the array owns; the token; what records own; _5; …; _4; …; _3; …; _2; …; _1; …; room for _0; …]
-        use1 W (raw (Replied 𝓤 H A mem run .pre (to-reply zs v))) (asks-reply (g .0) is-d zs v) $
-        calls-at ! fm (Replied 𝓤 H A mem run) known-reply (to-reply zs v)
+        use1 W (raw (Scored 𝓤 H A mem run .pre (to-score zs v))) (asks-score (g .0) is-d zs v) $
+        calls-at ! fm (Scored 𝓤 H A mem run) known-score (to-score zs v)
         (and-then ! (load ! (from ! (stop !)) (look ! 11 refl)) (and-then ! (load ! (from ! (stop !)) (look ! 3 refl)) (and-then ! (load ! (from ! (stop !)) (look ! 7 refl)) (no-more !)))) (λ w.
-        use1 W (later (some (λ (r : Reply). (‵ ftrue ⊛ ‵ (S.the-row .own r (w ∷ []))) ⊛ raw (ensured 𝓤 H A replied.ended (replied.clauses 𝓤 H A mem run) tt (d, (zs, (length ys, tt))) tt r)))) (id⊢ 𝓤 _) $ await ! tt $ pick ! (λ r.
-        split ! $ move ! (1 ∷ []) $ use1 W (raw (fact 𝓤 (Says zs r))) (said-reply zs r) $ heard ! (Says zs r) (λ e′. split ! $ drop ! $
+        use1 W (later (some (λ (r : Reply). (‵ ftrue ⊛ ‵ (S.the-row .own r (w ∷ []))) ⊛ raw (ensured 𝓤 H A scored.ended (scored.clauses 𝓤 H A mem run) tt (d, (zs, (length ys, tt))) tt r)))) (id⊢ 𝓤 _) $ await ! tt $ pick ! (λ r.
+        split ! $ move ! (1 ∷ []) $ use1 W (raw (fact 𝓤 (Says zs r))) (said-score zs r) $ heard ! (Says zs r) (λ e′. split ! $ drop ! $
         peeks ! S.the-row (Is S.the-row) (shows 𝓤 H A S.the-row) r (w ∷ []) (λ is-r.
         land ! (from ! (stop !)) (init ! 13 refl (LL.lawful S.the-type S′.the-laws 𝓤 H A W .typed r _ is-r .0)) $
         returns ! (look ! 13 refl) $ forget ! 3 refl $ forget ! 5 refl $ forget ! 7 refl $ forget ! 9 refl $ forget ! 11 refl $ forget ! 13 refl $
@@ -200,16 +200,16 @@ module _ {M : Type 1} (𝓤 : URA M) (H : Heap 𝓤) (A : Atoms 𝓤) (W : Given
         by ! (exits is-d r w (is-reply n zs r took e e′))))))))))))))))))))
 
 module _ {M : Type 1} (𝓤 : URA M) (H : Heap 𝓤) (A : Atoms 𝓤) (W : Given 𝓤 H A) (mem : Memory → SProp 𝓤) (run : Routine → Fun 𝓤) where
-  walks : (C : Calls 𝓤 H) (Λ : Loops 𝓤 H) → FmC 𝓤 H (W .laws) C → Triple 𝓤 (C #records·taken) (Taken 𝓤 H A mem run) → Triple 𝓤 (C #records·load) (Load 𝓤 H A mem run) → Triple 𝓤 (C #lent·region-reply) (Replied 𝓤 H A mem run)
+  walks : (C : Calls 𝓤 H) (Λ : Loops 𝓤 H) → FmC 𝓤 H (W .laws) C → Triple 𝓤 (C #records·taken) (Taken 𝓤 H A mem run) → Triple 𝓤 (C #records·load) (Load 𝓤 H A mem run) → Triple 𝓤 (C #lent·region-score) (Scored 𝓤 H A mem run)
       → Walks 𝓤 H A f.ended stayed (WpFn 𝓤 H C Λ code.function) (f.clauses 𝓤 H A mem run)
-  walks C Λ fm known-taken known-load known-reply = walked 𝓤 H A f.ended stayed (f.clauses 𝓤 H A mem run) (WpFn 𝓤 H C Λ code.function) (λ κs. (LL.vals Q.the-type Q′.the-laws, (slice-vals, tt))) (λ κs. (LL.tells Q.the-type Q′.the-laws, (shr-slice-tells (named 0) (κs .0) R, tt)))
-      (λ κs qs bounds a g are. via 𝓤 _ (fst∗ 𝓤 _ (emp 𝓤)) (walk 𝓤 H A W mem run (κs .0) (qs .0) (a .1 .0 .ptr .0) (a .1 .0 .ptr .1) (a .1 .0 .name) (a .1 .0 .now) (a .0) C Λ fm known-taken known-load known-reply (are .0) (are .1 .0 .0 .1)))
+  walks C Λ fm known-taken known-load known-score = walked 𝓤 H A f.ended stayed (f.clauses 𝓤 H A mem run) (WpFn 𝓤 H C Λ code.function) (λ κs. (LL.vals Q.the-type Q′.the-laws, (slice-vals, tt))) (λ κs. (LL.tells Q.the-type Q′.the-laws, (shr-slice-tells (named 0) (κs .0) R, tt)))
+      (λ κs qs bounds a g are. via 𝓤 _ (fst∗ 𝓤 _ (emp 𝓤)) (walk 𝓤 H A W mem run (κs .0) (qs .0) (a .1 .0 .ptr .0) (a .1 .0 .ptr .1) (a .1 .0 .name) (a .1 .0 .now) (a .0) C Λ fm known-taken known-load known-score (are .0) (are .1 .0 .0 .1)))
 
-  meets : (𝓣 : Tables 𝓤 H) → Triple 𝓤 (𝓣 .C #records·taken) (Taken 𝓤 H A mem run) → Triple 𝓤 (𝓣 .C #records·load) (Load 𝓤 H A mem run) → Triple 𝓤 (𝓣 .C #lent·region-reply) (Replied 𝓤 H A mem run)
+  meets : (𝓣 : Tables 𝓤 H) → Triple 𝓤 (𝓣 .C #records·taken) (Taken 𝓤 H A mem run) → Triple 𝓤 (𝓣 .C #records·load) (Load 𝓤 H A mem run) → Triple 𝓤 (𝓣 .C #lent·region-score) (Scored 𝓤 H A mem run)
       → Meets 𝓤 H A f.signature (WpFn 𝓤 H (𝓣 .C) (𝓣 .Λ) code.function) (f.spec 𝓤 H A mem run)
-  meets 𝓣 known-taken known-load known-reply =
+  meets 𝓣 known-taken known-load known-score =
       walk-meets 𝓤 H A f.ended stayed W (goes-none 𝓤 H A W 1 (λ _. Q.the-row) yes (λ κs x f. refl), (goes-none-slice 𝓤 H A W 1 (0 ∷ []) tt (plain (λ _. R)) yes, tt)) (f.clauses 𝓤 H A mem run)
-      (WpFn 𝓤 H (𝓣 .C) (𝓣 .Λ) code.function) (WpFn-mono 𝓤 H (W .laws) 𝓣 code.function) (walks (𝓣 .C) (𝓣 .Λ) (fmOf 𝓤 H (W .laws) 𝓣) known-taken known-load known-reply)
+      (WpFn 𝓤 H (𝓣 .C) (𝓣 .Λ) code.function) (WpFn-mono 𝓤 H (W .laws) 𝓣 code.function) (walks (𝓣 .C) (𝓣 .Λ) (fmOf 𝓤 H (W .laws) 𝓣) known-taken known-load known-score)
 
 pub lk-region-score-spec : {M : Type 1} → stated.statement M
 unfolding code.routine tablesOf
@@ -219,4 +219,4 @@ lk-region-score-spec 𝓤 H 𝓜 𝓖 𝓡 =
     (meets 𝓤 H (𝓖 .A) (givenOf 𝓤 H 𝓜 𝓖) (𝓜 .mem) (𝓡 .run) (tablesOf 𝓤 H 𝓜 (tables 𝓤 H 𝓜 𝓡 code.env))
     (cited 𝓤 H (Taken 𝓤 H (𝓖 .A) (𝓜 .mem) (𝓡 .run)) 𝓜 𝓡 code.env #records·taken taken-def.routine code.calls-records·taken (taken-thm.met 𝓤 H 𝓜 𝓖 𝓡))
     (cited 𝓤 H (Load 𝓤 H (𝓖 .A) (𝓜 .mem) (𝓡 .run)) 𝓜 𝓡 code.env #records·load load-def.routine code.calls-records·load (load-thm.met 𝓤 H 𝓜 𝓖 𝓡))
-    (cited 𝓤 H (Replied 𝓤 H (𝓖 .A) (𝓜 .mem) (𝓡 .run)) 𝓜 𝓡 code.env #lent·region-reply reply-def.routine code.calls-lent·region-reply (reply-thm.met 𝓤 H 𝓜 𝓖 𝓡)))
+    (cited 𝓤 H (Scored 𝓤 H (𝓖 .A) (𝓜 .mem) (𝓡 .run)) 𝓜 𝓡 code.env #lent·region-score score-def.routine code.calls-lent·region-score (score-thm.met 𝓤 H 𝓜 𝓖 𝓡)))
