@@ -43,7 +43,8 @@ pub struct Feature {
     pub score: i64,
 }
 
-// A scored stretch of bases, both ends included.
+// A scored stretch of bases, both ends included. A host lends its own, laid out as in C.
+#[repr(C)]
 pub struct Segment {
     pub kind: u32,
     pub start: u32,

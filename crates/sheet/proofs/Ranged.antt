@@ -5,9 +5,9 @@ use mathlib.Core.Bool.{Bool, true, false, _&&_, cond}
 use mathlib.Core.List.{List, [], _∷_, map}
 use Prim.Native.Nat.{ℕ, _-_, _≤_, _<_}
 use native.Mathlib.Omega.{arith}
-use borrow.Author.Tests.{ltb-true, ltb-false, eqb-true, eqb-false}
-use lib.Dec.{T, eqb, leb, ltb}
-use lib.IntN.{ℤ, pos, negsuc, natAbs}
+use borrow.Author.Tests.{eqb-true, eqb-false}
+use lib.Dec.{T, eqb, leb}
+use lib.IntN.{ℤ, natAbs}
 use lib.ListN.{length, getD, drop, length-map}
 use lib.Seq.{length-take-le}
 use lib.Signed.{nonNeg}
@@ -23,10 +23,10 @@ use Rattle.gaze.specs.Ranges as ranges
 use Rattle.gaze.proofs.ListLaws.{each-mapped, adjacent-mapped}
 use Rattle.kinds.specs.declared.Letter.{Letter}
 use Rattle.kinds.specs.declared.Letter.the-variants.{L, P, R, Q, F, S}
-use Rattle.kinds.specs.declared.Order.{Order}
-use Rattle.kinds.specs.declared.Order.the-variants.{Before, Same, After}
+use Rattle.kinds.specs.declared.Order.the-variants.{Before}
 use Rattle.kinds.specs.Kinds.{field, most-of}
-use Rattle.kinds.specs.Order.{keys-of, compared, decided, order, disorder}
+use Rattle.kinds.specs.Order.{keys-of, order, disorder}
+use Rattle.kinds.proofs.Orders.{never-same, in-order, one-key}
 use Rattle.kinds.proofs.Ranges.{Whole}
 use Rattle.group.specs.declared.Fault.{Fault}
 use Rattle.group.specs.Group.{read}
@@ -40,28 +40,6 @@ use Rattle.tables.proofs.Fields.{Source, Interrupted, PointFields, RuleFields, 
 use Rattle.sheet.specs.Reading.{refused, accepted, Groups, groups-of, first-fault, fault-of, sheet-of, answered, of-groups, reading}
 
 -- ---- the order of keys
-never-same : {A : Type 0} → Same ≡ Before → A
-never-same e = let z : _≡_ {A = ℕ} 0 1 = cc in let x : ⊥ = omega arith in absurd x
-
-never-after : {A : Type 0} → After ≡ Before → A
-never-after e = let z : _≡_ {A = ℕ} 0 1 = cc in let x : ⊥ = omega arith in absurd x
-
-in-order : (o : Order) → disorder o ≡ 0 → o ≡ Before
-in-order Before e = refl
-in-order Same e = let x : ⊥ = omega arith in absurd x
-in-order After e = let x : ⊥ = omega arith in absurd x
-
--- one key, and then the others
-one-key : (y z : ℤ) (o : Order) → T (nonNeg y) → T (nonNeg z) → decided (compared y z) o ≡ Before → (natAbs y < natAbs z) ⊎ ((natAbs y ≡ natAbs z) × (o ≡ Before))
-one-key (pos m) (pos n) o p q = go (ltb m n) refl (ltb n m) refl
-  where
-    go : (a : Bool) → ltb m n ≡ a → (b : Bool) → ltb n m ≡ b → decided (cond a Before (cond b After Same)) o ≡ Before → (m < n) ⊎ ((m ≡ n) × (o ≡ Before))
-    go true e b f h = inl (ltb-true m n e)
-    go false e true f h = never-after h
-    go false e false f h = inr (omega (arith, ltb-false m n e, ltb-false n m f), h)
-one-key (pos m) (negsuc n) o p q = λ h. absurd q
-one-key (negsuc m) z o p q = λ h. absurd p
-
 Keyed : List ℕ → List ℤ → Type 0
 Keyed keys row = Each (λ k. T (nonNeg (field row k))) keys
 
