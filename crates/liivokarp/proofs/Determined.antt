@@ -5,15 +5,17 @@ use mathlib.Core.List.{List, _++_}
 use Prim.Native.Nat.{ℕ, _≤_, _<_}
 use native.Mathlib.Omega.{arith}
 use lib.ListN.{length, drop}
+use Rattle.gaze.specs.declared.Segment.{Segment}
 use Rattle.gaze.specs.declared.Verdict.{Verdict}
 use Rattle.gaze.specs.declared.Verdict.the-variants.{NoChain, Breaks, Scores}
 use Rattle.gaze.specs.Chain.{Best, Valid, Judged, total}
 use Rattle.gaze.specs.Sheet.{Sheet, end-number}
 use Rattle.gaze.specs.Step.{steps}
 use Rattle.gaze.proofs.Unique.{best-unique, judged-unique}
+use Rattle.records.specs.declared.Region.{Region}
 use Rattle.sheet.specs.Reading.{Reading, reading, refused, accepted}
 use Rattle.liivokarp.specs.declared.Reply.{Reply}
-use Rattle.liivokarp.specs.Replies.{refusal, done, candidates-of, Assembles, sheet-refused, no-room, no-structure, assembled, ScoresChain, its-sheet-refused, no-chain, breaks, scored}
+use Rattle.liivokarp.specs.Replies.{refusal, done, candidates-of, Assembles, sheet-refused, no-room, no-structure, assembled, ScoresChain, its-sheet-refused, no-chain, breaks, scored, ScoresRegion}
 use Rattle.liivokarp.specs.Held.{verdict-reply}
 
 -- ---- a text is read in one way
@@ -102,3 +104,7 @@ scores-determined {bytes} {chain} {r} {r′} a b = go (either a) (either b)
         p .replied
         ∙ (ap (λ (v : Verdict). verdict-reply v (length chain)) (one-verdict chain (p .verdict) (q .verdict) (same-sheet (p .read) (q .read)) (p .judged) (q .judged))
         ∙ sym (q .replied))
+
+-- THE THEOREM for `lk_region_score`, which changes no buffer
+pub region-determined : (region : Region) (records : List Segment) {r r′ : Reply} → ScoresRegion region records r → ScoresRegion region records r′ → r ≡ r′
+region-determined region records p q = p ∙ sym q

@@ -5,10 +5,15 @@ use mathlib.Core.List.{List, _++_}
 use Prim.Native.Nat.{ℕ, _+_, _≤_, _<_}
 use lib.IntN.{ℤ, pos}
 use lib.ListN.{length, drop}
+use Rattle.gaze.specs.declared.Segment.{Segment}
 use Rattle.gaze.specs.Chain.{Chain, Valid, Best, FirstBad, total}
 use Rattle.gaze.specs.Sheet.{Sheet, end-number}
 use Rattle.gaze.specs.Step.{steps}
 use Rattle.sheet.specs.Reading.{reading, refused, accepted}
+use Rattle.records.specs.declared.Region.{Region}
+use Rattle.records.specs.declared.Regional.{Regional}
+use Rattle.records.specs.declared.Regional.the-variants.{Refused, Scored}
+use Rattle.records.specs.Answers.{region-answer}
 use Rattle.liivokarp.specs.declared.Reply.{Reply}
 
 -- On a refusal score and count are 0.
@@ -51,3 +56,11 @@ pub data ScoresChain (bytes chain : List ℕ) (r : Reply) : Type 0 where
   -- 0: it is valid
   scored : (sheet : Sheet) → reading bytes ≡ accepted sheet → Valid (steps sheet) (end-number sheet) chain
       → r ≡ done (total (steps sheet) chain) (length chain) → ScoresChain bytes chain r
+
+-- Scoring one region over lent records: `region-answer` walks them in order, and says 4, 7, 4 or 5 with the record's number, or the score. There is no count.
+abbrev pub region-reply : Regional → Reply
+region-reply (Refused number place) = refusal number place
+region-reply (Scored score) = done score 0
+
+abbrev pub ScoresRegion : Region → List Segment → Reply → Type 0
+ScoresRegion region records r = r ≡ region-reply (region-answer region records)

@@ -2,18 +2,25 @@
 // table of replies.
 
 ghost use mathlib.Core.Path.{_≡_};
-ghost use Prim.Native.Nat.{_+_, _≤_};
+ghost use mathlib.Core.List.{List};
+ghost use Prim.Native.Nat.{_+_, _≤_, min};
 ghost use lib.ListN.{length};
+ghost use Rattle.gaze.specs.declared.Segment.{Segment};
 ghost use Rattle.gaze.specs.Chain.{Judged};
 ghost use Rattle.gaze.specs.Sheet.{Sheet, end-number};
 ghost use Rattle.gaze.specs.Step.{steps};
 ghost use Rattle.chains.specs.Answer.{Answers};
-ghost use Rattle.liivokarp.specs.Replies.{refusal, done, Assembles, ScoresChain};
+ghost use Rattle.records.specs.Held.{held};
+ghost use Rattle.records.specs.Answers.{region-answer};
+ghost use Rattle.liivokarp.specs.Replies.{refusal, done, Assembles, ScoresChain, region-reply, ScoresRegion};
 ghost use Rattle.liivokarp.specs.Held.{HeldSheet, HoldsSheet, Ready, found-reply, verdict-reply};
 use chains::Found;
 use engine::Prepared;
 use engine::lent::judge;
+use gaze::Segment;
 use gaze::Verdict;
+use records::Region;
+use records::Regional;
 use sheet::Columns;
 
 #[repr(C)]
@@ -150,4 +157,31 @@ pub extern "C" fn lk_score_chain(sheet: &[u8], chain: &[u32]) -> Reply
         return refusal(columns.number, columns.place);
     }
     verdict_reply(verdict_of(columns, chain), chain.len())
+}
+
+fn region_reply(answer: Regional) -> Reply
+    ensures { λ r. ⌜ r ≡ region-reply answer ⌝ }
+{
+    match answer {
+        Regional::Refused { number, place } => refusal(number, place),
+        Regional::Scored(score) => done(score, 0),
+    }
+}
+
+// The reply over the records whose front the rows hold.
+fn region_score(region: Region, rows: [Segment; 1024], len: usize) -> Reply
+    ensures { λ r. ⌜ ((records : List Segment) → length records ≡ len → rows ≡ held (min len 1024) records → r ≡ region-reply (region-answer region records)) ⌝ }
+{
+    region_reply(records::answer(region, rows, len))
+}
+
+// The score of one region over segments that are lent as records.
+#[no_mangle]
+pub extern "C" fn lk_region_score(region: Region, records: &[Segment]) -> Reply
+    ensures { λ r. ⌜ ScoresRegion region (now (records .entry)) r ⌝ }
+{
+    let len = records.len();
+    let n = records::taken(len);
+    let rows = records::load(records, n);
+    region_score(region, rows, len)
 }

@@ -1,9 +1,9 @@
 -- `region_score` is right because it hands over the answer.
 use mathlib.Core.Path.{ap, _∙_}
-use Rattle.lent.specs.Replies.{region-reply}
+use Rattle.liivokarp.specs.Replies.{region-reply}
 use borrow.Author.Needs.{needs}
-use Rattle.lent.proofs.region_score.Statement.{statement}
-use Rattle.lent.proofs.region_score.Tie as tie
+use Rattle.liivokarp.proofs.region_score.Statement.{statement}
+use Rattle.liivokarp.proofs.region_score.Tie as tie
 
 answer-requires : tie.Need-answer-requires
 answer-requires c κs = search needs

@@ -54,18 +54,18 @@ use Rattle.records.proofs.load as loaded
 use Rattle.records.proofs.load.Symbol as load-def
 use Rattle.records.proofs.load.Symbol.{name as #records·load}
 use Rattle.records.proofs.load.Met as load-thm
-use Rattle.lent.specs.declared.Reply.{Reply}
-use Rattle.lent.specs.Replies.{region-reply}
-use Rattle.lent.proofs.Reply as S
-use Rattle.lent.proofs.Reply.Laws as S′
-use Rattle.lent.proofs.region_score as scored
-use Rattle.lent.proofs.region_score.Symbol as score-def
-use Rattle.lent.proofs.region_score.Symbol.{name as #lent·region-score}
-use Rattle.lent.proofs.region_score.Met as score-thm
-use Rattle.lent.proofs.lk_region_score.Key.{name as #lent·lk-region-score}
-use Rattle.lent.proofs.lk_region_score as f
-use Rattle.lent.proofs.lk_region_score.Statement as stated
-use Rattle.lent.proofs.lk_region_score.Code as code
+use Rattle.liivokarp.specs.declared.Reply.{Reply}
+use Rattle.liivokarp.specs.Replies.{region-reply}
+use Rattle.liivokarp.proofs.Reply as S
+use Rattle.liivokarp.proofs.Reply.Laws as S′
+use Rattle.liivokarp.proofs.region_score as scored
+use Rattle.liivokarp.proofs.region_score.Symbol as score-def
+use Rattle.liivokarp.proofs.region_score.Symbol.{name as #liivokarp·region-score}
+use Rattle.liivokarp.proofs.region_score.Met as score-thm
+use Rattle.liivokarp.proofs.lk_region_score.Key.{name as #liivokarp·lk-region-score}
+use Rattle.liivokarp.proofs.lk_region_score as f
+use Rattle.liivokarp.proofs.lk_region_score.Statement as stated
+use Rattle.liivokarp.proofs.lk_region_score.Code as code
 
 abbrev stayed : Stays (f.ended .signature .params) (f.ended .kept)
 stayed = (stay-none (λ _. Q.the-row) yes, (stay-none-slice (0 ∷ []) tt (plain (λ _. R)) yes, tt))
@@ -162,7 +162,7 @@ module _ {M : Type 1} (𝓤 : URA M) (H : Heap 𝓤) (A : Atoms 𝓤) (W : Given
   is-reply : (n : ℕ) (zs : List Segment) (r : Reply) → Took n → zs ≡ held n ys → Says zs r → r ≡ region-reply (region-answer d ys)
   is-reply n zs r took e says-r = says-r ys refl (e ∙ ap (λ (m : ℕ). held m ys) took)
 
-  module _ (C : Calls 𝓤 H) (Λ : Loops 𝓤 H) (fm : FmC 𝓤 H (W .laws) C) (known-taken : Triple 𝓤 (C #records·taken) (Taken 𝓤 H A mem run)) (known-load : Triple 𝓤 (C #records·load) (Load 𝓤 H A mem run)) (known-score : Triple 𝓤 (C #lent·region-score) (Scored 𝓤 H A mem run)) where
+  module _ (C : Calls 𝓤 H) (Λ : Loops 𝓤 H) (fm : FmC 𝓤 H (W .laws) C) (known-taken : Triple 𝓤 (C #records·taken) (Taken 𝓤 H A mem run)) (known-load : Triple 𝓤 (C #records·load) (Load 𝓤 H A mem run)) (known-score : Triple 𝓤 (C #liivokarp·region-score) (Scored 𝓤 H A mem run)) where
     -- the MIR, call after call
     walk : Is Q.the-row d (asked ∷ []) → Room R (length ys) → ent 𝓤 (onEntry 𝓤 H A f.signature (κ, tt) (q, tt) (d, (x, tt)) at) (WpFn 𝓤 H C Λ code.function (asked ∷ mach ∷ []) Post)
     walk is-d g =
@@ -200,12 +200,12 @@ module _ {M : Type 1} (𝓤 : URA M) (H : Heap 𝓤) (A : Atoms 𝓤) (W : Given
         by ! (exits is-d r w (is-reply n zs r took e e′))))))))))))))))))))
 
 module _ {M : Type 1} (𝓤 : URA M) (H : Heap 𝓤) (A : Atoms 𝓤) (W : Given 𝓤 H A) (mem : Memory → SProp 𝓤) (run : Routine → Fun 𝓤) where
-  walks : (C : Calls 𝓤 H) (Λ : Loops 𝓤 H) → FmC 𝓤 H (W .laws) C → Triple 𝓤 (C #records·taken) (Taken 𝓤 H A mem run) → Triple 𝓤 (C #records·load) (Load 𝓤 H A mem run) → Triple 𝓤 (C #lent·region-score) (Scored 𝓤 H A mem run)
+  walks : (C : Calls 𝓤 H) (Λ : Loops 𝓤 H) → FmC 𝓤 H (W .laws) C → Triple 𝓤 (C #records·taken) (Taken 𝓤 H A mem run) → Triple 𝓤 (C #records·load) (Load 𝓤 H A mem run) → Triple 𝓤 (C #liivokarp·region-score) (Scored 𝓤 H A mem run)
       → Walks 𝓤 H A f.ended stayed (WpFn 𝓤 H C Λ code.function) (f.clauses 𝓤 H A mem run)
   walks C Λ fm known-taken known-load known-score = walked 𝓤 H A f.ended stayed (f.clauses 𝓤 H A mem run) (WpFn 𝓤 H C Λ code.function) (λ κs. (LL.vals Q.the-type Q′.the-laws, (slice-vals, tt))) (λ κs. (LL.tells Q.the-type Q′.the-laws, (shr-slice-tells (named 0) (κs .0) R, tt)))
       (λ κs qs bounds a g are. via 𝓤 _ (fst∗ 𝓤 _ (emp 𝓤)) (walk 𝓤 H A W mem run (κs .0) (qs .0) (a .1 .0 .ptr .0) (a .1 .0 .ptr .1) (a .1 .0 .name) (a .1 .0 .now) (a .0) C Λ fm known-taken known-load known-score (are .0) (are .1 .0 .0 .1)))
 
-  meets : (𝓣 : Tables 𝓤 H) → Triple 𝓤 (𝓣 .C #records·taken) (Taken 𝓤 H A mem run) → Triple 𝓤 (𝓣 .C #records·load) (Load 𝓤 H A mem run) → Triple 𝓤 (𝓣 .C #lent·region-score) (Scored 𝓤 H A mem run)
+  meets : (𝓣 : Tables 𝓤 H) → Triple 𝓤 (𝓣 .C #records·taken) (Taken 𝓤 H A mem run) → Triple 𝓤 (𝓣 .C #records·load) (Load 𝓤 H A mem run) → Triple 𝓤 (𝓣 .C #liivokarp·region-score) (Scored 𝓤 H A mem run)
       → Meets 𝓤 H A f.signature (WpFn 𝓤 H (𝓣 .C) (𝓣 .Λ) code.function) (f.spec 𝓤 H A mem run)
   meets 𝓣 known-taken known-load known-score =
       walk-meets 𝓤 H A f.ended stayed W (goes-none 𝓤 H A W 1 (λ _. Q.the-row) yes (λ κs x f. refl), (goes-none-slice 𝓤 H A W 1 (0 ∷ []) tt (plain (λ _. R)) yes, tt)) (f.clauses 𝓤 H A mem run)
@@ -215,8 +215,8 @@ pub lk-region-score-spec : {M : Type 1} → stated.statement M
 unfolding code.routine tablesOf
 lk-region-score-spec 𝓤 H 𝓜 𝓖 𝓡 =
     entered 𝓤 H (tripleOf 𝓤 H (𝓖 .A) f.signature (f.spec 𝓤 H (𝓖 .A) (𝓜 .mem) (𝓡 .run)))
-    (tables 𝓤 H 𝓜 𝓡 code.env .C) (tables 𝓤 H 𝓜 𝓡 code.env .Λ) #lent·lk-region-score code.function (code.unfolded 𝓤 H 𝓜 𝓡)
+    (tables 𝓤 H 𝓜 𝓡 code.env .C) (tables 𝓤 H 𝓜 𝓡 code.env .Λ) #liivokarp·lk-region-score code.function (code.unfolded 𝓤 H 𝓜 𝓡)
     (meets 𝓤 H (𝓖 .A) (givenOf 𝓤 H 𝓜 𝓖) (𝓜 .mem) (𝓡 .run) (tablesOf 𝓤 H 𝓜 (tables 𝓤 H 𝓜 𝓡 code.env))
     (cited 𝓤 H (Taken 𝓤 H (𝓖 .A) (𝓜 .mem) (𝓡 .run)) 𝓜 𝓡 code.env #records·taken taken-def.routine code.calls-records·taken (taken-thm.met 𝓤 H 𝓜 𝓖 𝓡))
     (cited 𝓤 H (Load 𝓤 H (𝓖 .A) (𝓜 .mem) (𝓡 .run)) 𝓜 𝓡 code.env #records·load load-def.routine code.calls-records·load (load-thm.met 𝓤 H 𝓜 𝓖 𝓡))
-    (cited 𝓤 H (Scored 𝓤 H (𝓖 .A) (𝓜 .mem) (𝓡 .run)) 𝓜 𝓡 code.env #lent·region-score score-def.routine code.calls-lent·region-score (score-thm.met 𝓤 H 𝓜 𝓖 𝓡)))
+    (cited 𝓤 H (Scored 𝓤 H (𝓖 .A) (𝓜 .mem) (𝓡 .run)) 𝓜 𝓡 code.env #liivokarp·region-score score-def.routine code.calls-liivokarp·region-score (score-thm.met 𝓤 H 𝓜 𝓖 𝓡)))

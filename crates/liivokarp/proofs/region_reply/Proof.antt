@@ -1,8 +1,8 @@
 -- `region_reply` is right because each arm makes the reply of its case.
 use Rattle.whole.proofs.Bits.{back}
 use borrow.Author.Needs.{needs}
-use Rattle.lent.proofs.region_reply.Statement.{statement}
-use Rattle.lent.proofs.region_reply.Tie as tie
+use Rattle.liivokarp.proofs.region_reply.Statement.{statement}
+use Rattle.liivokarp.proofs.region_reply.Tie as tie
 
 enum-known-answer : tie.Need-enum-known-answer
 enum-known-answer c = search needs
