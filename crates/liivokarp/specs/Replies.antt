@@ -57,7 +57,7 @@ pub data ScoresChain (bytes chain : List ℕ) (r : Reply) : Type 0 where
   scored : (sheet : Sheet) → reading bytes ≡ accepted sheet → Valid (steps sheet) (end-number sheet) chain
       → r ≡ done (total (steps sheet) chain) (length chain) → ScoresChain bytes chain r
 
--- Scoring one region over lent records: `region-answer` walks them in order, and says 4, 7, 4 or 5 with the record's number, or the score. There is no count.
+-- Scoring one region over lent records: `region-answer` refuses the region, or walks the records in order and refuses the first at fault, or says the score. There is no count.
 abbrev pub region-reply : Regional → Reply
 region-reply (Refused number place) = refusal number place
 region-reply (Scored score) = done score 0

@@ -1,7 +1,5 @@
 -- `found_reply` is right because each arm makes the reply of its case.
-use mir.Syntax.{w64}
-use mir.Val.{SFits}
-use mir.Facts.{toZ-ofZ}
+use Rattle.whole.proofs.Bits.{back}
 use borrow.Author.Needs.{needs}
 use Rattle.liivokarp.proofs.found_reply.Statement.{statement}
 use Rattle.liivokarp.proofs.found_reply.Tie as tie
@@ -20,8 +18,8 @@ refusal-requires c κs = search needs
 
 returns : tie.Need-returns
 returns c =
-    let f : SFits w64 (c .before .before .found .given .0 .0) = record { sfits = c .before .known-told .given .0 .1 } in
-    rw (c .before .before .found .given .1) (rw (toZ-ofZ f) at (c .done .ensures))
+    let score = back (c .before .before .found .given .0 .0) (c .before .known-told .given .0 .1) in
+    rw (c .before .before .found .given .1) (rw score at (c .done .ensures))
 
 returns-2 : tie.Need-returns-2
 returns-2 c = rw (c .before .enum-told .given .1) (c .refusal .ensures)

@@ -1,7 +1,5 @@
 -- `verdict_reply` is right because each arm makes the reply of its case.
-use mir.Syntax.{w64}
-use mir.Val.{SFits}
-use mir.Facts.{toZ-ofZ}
+use Rattle.whole.proofs.Bits.{back}
 use borrow.Author.Needs.{needs}
 use Rattle.liivokarp.proofs.verdict_reply.Statement.{statement}
 use Rattle.liivokarp.proofs.verdict_reply.Tie as tie
@@ -32,8 +30,8 @@ returns-2 c = rw (c .before .before .verdict .given .1) (c .refusal2 .ensures)
 
 returns-3 : tie.Need-returns-3
 returns-3 c =
-    let f : SFits w64 (c .before .before .verdict2 .given .0 .0) = record { sfits = c .before .known-told2 .given .0 .1 } in
-    rw (c .before .before .verdict2 .given .1) (rw (toZ-ofZ f) at (c .done .ensures))
+    let score = back (c .before .before .verdict2 .given .0 .0) (c .before .known-told2 .given .0 .1) in
+    rw (c .before .before .verdict2 .given .1) (rw score at (c .done .ensures))
 
 pub verdict-reply-spec : {M : Type 1} → statement M
 verdict-reply-spec =
