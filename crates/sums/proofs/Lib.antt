@@ -1,3 +1,4 @@
 pub mod Filling
 pub mod Nearness
+pub mod Opening
 pub mod Pairs
