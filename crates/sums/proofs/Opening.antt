@@ -50,6 +50,19 @@ module _ (starts ends : List ℕ) (rates : List ℤ) (lo hi : ℕ) where
       none-below i u = omega arith
 
   module _ {from next count ahead : ℕ} {starts′ ends′ : List ℕ} {rates′ : List ℤ} (q : Open starts ends rates lo hi from next count ahead starts′ ends′ rates′) where
+    -- the walk went on
+    pub open-later : {from′ : ℕ} → from ≤ from′ → Open starts ends rates lo hi from′ next count ahead starts′ ends′ rates′
+    open-later h =
+        record {
+          begun = q .begun;
+          within = q .within;
+          bounded = q .bounded;
+          few = q .few;
+          sound = q .sound;
+          alike = λ kind x l. q .alike kind x (omega arith);
+          enough = q .enough;
+        }
+
     -- rows were dropped
     pub open-near : {from′ count′ : ℕ} {starts″ ends″ : List ℕ} {rates″ : List ℤ} → from ≤ from′ → Near starts′ ends′ rates′ from′ count count′ starts″ ends″ rates″
         → Open starts ends rates lo hi from′ next count′ ahead starts″ ends″ rates″

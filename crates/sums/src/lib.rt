@@ -133,6 +133,13 @@ fn reopen<'a>(
     requires { ⌜ Open (now start) (now end) (now rate) lo hi (walk .at) (walk .next) (walk .count) (walk .ahead) (now starts) (now ends) (now rates) ⌝ }
     ensures { λ r. ⌜ walk .to < r .ahead ⌝ ∗ ⌜ Open (now (start .entry)) (now (end .entry)) (now (rate .entry)) lo hi (walk .to) (r .next) (r .count) (r .ahead) (now (starts .exit)) (now (ends .exit)) (now (rates .exit)) ⌝ }
 {
+    if walk.to < walk.ahead {
+        return Opened {
+            next: walk.next,
+            count: walk.count,
+            ahead: walk.ahead,
+        };
+    }
     let count = close_rows(walk.to, walk.count, starts, ends, rates);
     let left = Opened {
         next: walk.next,
