@@ -2,3 +2,4 @@ pub mod Filling
 pub mod Nearness
 pub mod Opening
 pub mod Pairs
+pub mod Spanning

@@ -2,16 +2,18 @@
 // and one quotient. The table has two numbers for each of 64 slots and 1,026 candidates.
 
 ghost use mathlib.Core.Path.{_≡_};
-ghost use mathlib.Core.Bool.{not, _||_};
-ghost use Prim.Native.Nat.{_+_, _*_, _-_, _<_, _≤_};
+ghost use mathlib.Core.Bool.{true, not, _||_};
+ghost use Prim.Native.Nat.{ℕ, _+_, _*_, _-_, _<_, _≤_};
 ghost use lib.IntN.{pos, natAbs, _+ℤ_, _-ℤ_, _*ℤ_};
 ghost use lib.ListN.{length, getD};
+ghost use lib.Signed.{leZ};
 ghost use Rattle.whole.specs.Whole.{floor-of};
-ghost use Rattle.rows.specs.Rows.{Sound};
+ghost use Rattle.rows.specs.Rows.{rows, Sound};
+ghost use Rattle.rows.specs.Peaks.{Flat};
 ghost use Rattle.segment.specs.Choice.{Room};
 ghost use Rattle.slots.specs.Search.{Rising};
 ghost use Rattle.sums.specs.Table.{Places, Small, Fill, SlotFill, Sums, Filling};
-ghost use Rattle.sums.specs.Window.{Near, Open, Walked};
+ghost use Rattle.sums.specs.Window.{Near, Open, Spanned, Level, Walked};
 
 // A table with nothing in it. The caller lends it, since it is too large to be copied.
 pub fn empty_table() -> [i64; 131_328]
@@ -76,7 +78,17 @@ struct Opened {
     ahead: u32,
 }
 
-// Opens the rows that start by `x`, and the first that starts behind it.
+// Whether the last row that was opened starts behind `x`, and `most` are open.
+fn enough(x: u32, ahead: u32, open: usize, most: usize) -> bool
+    ensures { λ r. ⌜ (r ≡ true → x < ahead) ⌝ }
+{
+    if x < ahead {
+        return most <= open;
+    }
+    false
+}
+
+// Opens the rows that start by `x`, and some that start behind it: the more, the less often the rows are looked through for ended ones.
 fn open_rows<'a>(
     start: &'a [u32],
     end: &'a [u32],
@@ -97,8 +109,9 @@ fn open_rows<'a>(
     let mut i = from.next;
     let mut o = from.count;
     let mut ahead = from.ahead;
+    let most = from.count + 16;
     while i < hi {
-        if x < ahead {
+        if enough(x, ahead, o, most) {
             return Opened {
                 next: i,
                 count: o,
@@ -149,6 +162,98 @@ fn reopen<'a>(
     open_rows(start, end, rate, lo, hi, walk.to, left, starts, ends, rates)
 }
 
+// ---- how far a plateau goes
+
+// Of the bases from some base on: before `until` some row gives the value, before `limit` none gives more.
+struct Span {
+    until: u32,
+    limit: u32,
+}
+
+// One more row. A row that gives less than a value that is not below 0 changes nothing, wherever it starts or ends.
+fn span_on(span: Span, x: u32, value: i64, start: u32, end: u32, rate: i64) -> Span
+    requires { ⌜ leZ (pos 0) value ≡ true ⌝ ∗ ⌜ end ≤ 4000000 ⌝ }
+    ensures { λ r. ⌜ Spanned x value start end rate (span .until) (span .limit) (r .until) (r .limit) ⌝ }
+{
+    if whole::below(value, rate) {
+        if end < x {
+            return span;
+        }
+        if start < span.limit {
+            return Span {
+                until: span.until,
+                limit: start,
+            };
+        }
+        return span;
+    }
+    if whole::below(rate, value) {
+        return span;
+    }
+    if x < start {
+        return span;
+    }
+    if span.until <= end {
+        return Span {
+            until: end + 1,
+            limit: span.limit,
+        };
+    }
+    span
+}
+
+// A base up to which, from `x` on, the first `count` rows have the peak `value`; it may be `x` itself.
+fn level_to<'a>(
+    starts: &'a [u32],
+    ends: &'a [u32],
+    rates: &'a [i64],
+    count: usize,
+    x: u32,
+    value: i64,
+    ahead: u32,
+) -> u32
+    requires { ⌜ Sound 10000000000 (now starts) (now ends) (now rates) 0 count ⌝ ∗ ⌜ leZ (pos 0) value ≡ true ⌝ }
+    ensures { λ r. ⌜ Level (now (starts .entry)) (now (ends .entry)) (now (rates .entry)) count x value ahead r ⌝ }
+{
+    let mut span = Span {
+        until: x,
+        limit: ahead,
+    };
+    let mut i: usize = 0;
+    while i < count {
+        span = span_on(span, x, value, starts[i], ends[i], rates[i]);
+        i += 1;
+    }
+    if span.until < span.limit {
+        return span.until;
+    }
+    span.limit
+}
+
+// The end of a plateau: where the row that gives the peak ends or a better one starts, and not where any other starts or ends.
+fn lengthen<'a>(
+    starts: &'a [u32],
+    ends: &'a [u32],
+    rates: &'a [i64],
+    count: usize,
+    x: u32,
+    flat: rows::Plateau,
+    ahead: u32,
+) -> u32
+    requires { ⌜ Sound 10000000000 (now starts) (now ends) (now rates) 0 count ⌝ }
+    requires { ⌜ ((kind : ℕ) → Flat (rows kind (now starts) (now ends) (now rates) 0 count) x ahead (flat .value) (flat .next)) ⌝ }
+    ensures { λ r. ⌜ ((kind : ℕ) → Flat (rows kind (now (starts .entry)) (now (ends .entry)) (now (rates .entry)) 0 count) x ahead (flat .value) r) ⌝ }
+{
+    if whole::below(flat.value, 0) {
+        return flat.next;
+    }
+    let to = level_to(starts, ends, rates, count, x, flat.value, ahead);
+    if flat.next < to {
+        return to;
+    }
+    flat.next
+}
+
 // ---- the walk
 
 // The sum of the peaks up to `at`, which is left out; the peak of each base from there to `to`, which is left out; and the rows that are open.
@@ -194,11 +299,12 @@ fn advance<'a>(
     let sum = reached(walk, x);
     let opened = reopen(start, end, rate, lo, hi, walk, starts, ends, rates);
     let flat = rows::flat_from(starts, ends, rates, 0, opened.count, x, opened.ahead);
+    let to = lengthen(starts, ends, rates, opened.count, x, flat, opened.ahead);
     Walk {
         at: x,
         sum,
         value: flat.value,
-        to: flat.next,
+        to,
         next: opened.next,
         count: opened.count,
         ahead: opened.ahead,

@@ -28,6 +28,9 @@ reopen-requires c κs =
 flat-from-requires : tie.Need-flat-from-requires
 flat-from-requires c κs = search needs
 
+lengthen-requires : tie.Need-lengthen-requires
+lengthen-requires c κs = search needs
+
 same-length : tie.Need-same-length
 same-length c = search needs
 
@@ -39,15 +42,16 @@ same-length-3 c = search needs
 
 returns : tie.Need-returns
 returns c =
-    let p = c .before .before .before .before .before .before .before .before .before .before .before .before .before .before .before .before .before .before .before .pre in
-    let a = c .before .before .before .before .before .before .before .before .before .before .before .before .before .before .before .before .before .before .before .args in
+    let p = c .before .before .before .before .before .before .before .before .before .before .before .before .before .before .before .before .before .before .before .before .before .before .before .pre in
+    let a = c .before .before .before .before .before .before .before .before .before .before .before .before .before .before .before .before .before .before .before .before .before .before .before .args in
     let w = p .1 .1 .1 .1 in
-    let r = c .before .before .before .before .before .before .before .before .before .before .before .before .before .before .reached in
-    let o = c .before .before .before .before .before .before .before .before .before .before .reopen in
-    let f = c .before .flat-from in
+    let r = c .before .before .before .before .before .before .before .before .before .before .before .before .before .before .before .before .before .before .reached in
+    let o = c .before .before .before .before .before .before .before .before .before .before .before .before .before .before .reopen in
+    let f = c .before .before .before .before .before .flat-from in
+    let k = c .before .lengthen in
     let u : Upto (a .start .now) (a .end .now) (a .rate .now) (a .lo) (a .hi) (a .walk .to) (r .result) = rw (r .ensures) (upto-on (a .start .now) (a .end .now) (a .rate .now) (a .lo) (a .hi) w (w .onward) (omega arith)) in
     let v : SFits w64 (f .result .value) = record { sfits = c .struct-told .given .0 .1 } in
-    rw (back (r .result) (r .ok), toZ-ofZ v) (refl, (f .ensures 0 .after, walked-more (a .start .now) (a .end .now) (a .rate .now) (a .lo) (a .hi) u (o .ensures .1) (f .ensures)))
+    rw (back (r .result) (r .ok), toZ-ofZ v) (refl, (k .ensures 0 .after, walked-more (a .start .now) (a .end .now) (a .rate .now) (a .lo) (a .hi) u (o .ensures .1) (k .ensures)))
 
 pub advance-spec : {M : Type 1} → statement M
 advance-spec =
@@ -56,6 +60,7 @@ advance-spec =
     reached-requires
     reopen-requires
     flat-from-requires
+    lengthen-requires
     same-length
     same-length-2
     same-length-3
