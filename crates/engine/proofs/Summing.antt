@@ -39,13 +39,14 @@ module _ {sheet : Sheet} {kinds positions : List ℕ} {scores : List ℤ} {rules
       (rated-sound (tables .segments .start) (tables .segments .end) (tables .segments .score) 0 (r .model .columns .total) (tables .segments .rate)
       (r .model .columns .sound) (r .model .columns .rates-long) (r .model .columns .rated))
 
-  pub ready-filling : {table : List ℤ} → 64 ≤ length (tables .summed) → 131328 ≤ length table → Small table → Filling (tables .segments .at) (tables .segments .total) (tables .summed) table
+  pub ready-filling : {table : List ℤ} → 64 ≤ length (tables .summed) → 131328 ≤ length table → Small table → Filling (tables .segments .at) (tables .segments .start) (tables .segments .total) (tables .summed) table
   ready-filling long room small =
       record {
         at-long = r .model .columns .at-long;
         ordered = r .model .columns .ordered;
         within = λ j h. omega (arith, r .model .columns .within j h, r .model .all);
         few = λ j h. omega (arith, slot-few (r .model .slots) j h, r .model .costs .legality .ranged .segments .few);
+        rising = r .model .columns .rising;
         used-long = long;
         room = room;
         small = small;

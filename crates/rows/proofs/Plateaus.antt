@@ -193,7 +193,7 @@ sum-joined f a b c h k =
     let e : a + (b - a) ≡ b = omega arith in
     ap (sum-over f a) n ∙ (sum-split f a (b - a) (c - b) ∙ ap (λ (x : ℕ). sum-over f a (b - a) +ℤ sum-over f x (c - b)) e)
 
-sum-flat : (f : ℕ → ℤ) (a n : ℕ) (z : ℤ) → ((y : ℕ) → a ≤ y → y < a + n → f y ≡ z) → sum-over f a n ≡ z *ℤ pos n
+pub sum-flat : (f : ℕ → ℤ) (a n : ℕ) (z : ℤ) → ((y : ℕ) → a ≤ y → y < a + n → f y ≡ z) → sum-over f a n ≡ z *ℤ pos n
 unfolding sum-over
 sum-flat f a zero z h = sym (*ℤ-zero z)
 sum-flat f a (suc n) z h =

@@ -176,7 +176,7 @@ pub struct Plateau {
 }
 
 // The peak at `x` among rows `lo` to `hi`.
-fn flat_from<'a>(
+pub fn flat_from<'a>(
     start: &'a [u32],
     end: &'a [u32],
     rate: &'a [i64],

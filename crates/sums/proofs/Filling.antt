@@ -1,5 +1,5 @@
 -- How the table is filled: a running sum that goes on, two entries for each position, and one slot after another.
-use mathlib.Core.Path.{_≡_, refl, sym, ap₂, _∙_}
+use mathlib.Core.Path.{_≡_, refl, sym, _∙_}
 use mathlib.Core.Logic.{⊎-elim}
 use mathlib.Core.Bool.{Bool, true, false, not, true≢false}
 use mathlib.Core.List.{List}
@@ -8,18 +8,15 @@ use native.Mathlib.Nat.{eq-or-lt-of-le}
 use native.Mathlib.Omega.{arith}
 use borrow.Author.Tests.{not-true, eqb-true, eqb-false}
 use lib.Dec.{eqb}
-use lib.IntN.{ℤ, pos, natAbs, _+ℤ_}
+use lib.IntN.{ℤ, pos, natAbs}
 use lib.ListN.{length, getD, set, replicate, length-set}
 use lib.Seq.{getD-set-same, getD-set-other, set-out}
 use Rattle.gaze.specs.SegmentScore.{sum-over}
 use Rattle.gaze.proofs.Tests.{at-or-below}
-use Rattle.rows.specs.Rows.{rows, Sound}
-use Rattle.rows.specs.Peaks.{peak}
-use Rattle.rows.proofs.Plateaus.{sum-joined, walk-size}
-use Rattle.rows.proofs.Rates.{sum-same}
+use Rattle.rows.specs.Rows.{Sound}
+use Rattle.rows.proofs.Plateaus.{walk-size}
 use Rattle.slots.proofs.Classes.{outcome}
-use Rattle.sums.specs.Table.{Upto, Onward, Filled, Small, Fill, SlotFill, Sums}
-use Rattle.sums.specs.Window.{Near}
+use Rattle.sums.specs.Table.{Upto, Filled, Small, Fill, SlotFill, Sums}
 
 -- a table of zeros is small
 pub zeros-small : (n : ℕ) → Small (replicate n (pos 0))
@@ -48,20 +45,6 @@ module _ (starts ends : List ℕ) (rates : List ℤ) (lo hi : ℕ) where
   pub upto-none : Upto starts ends rates lo hi 1 (pos 0)
   unfolding sum-over
   upto-none = record { begun = omega arith; bounded = omega arith; is = λ kind. refl }
-
-  -- from a base where the sum is known on, by rows that have the same peaks between
-  pub upto-more : {at to few : ℕ} {sum sum′ : ℤ} {end : ℕ} {starts′ ends′ : List ℕ} {rates′ : List ℤ} {from at′ : ℕ} → Upto starts ends rates lo hi at sum → at ≤ to → to ≤ end → end ≤ 4000001
-      → from ≤ at → Near starts ends rates lo hi from end few starts′ ends′ rates′ → Onward starts′ ends′ rates′ 0 few at sum to at′ sum′ → Upto starts ends rates lo hi to sum′
-  upto-more {at} {to} {few} {starts′ = starts′} {ends′ = ends′} {rates′ = rates′} u h l m f n o =
-      record {
-        begun = omega (arith, u .begun);
-        bounded = omega arith;
-        is = λ kind.
-            o .is kind
-            ∙ (ap₂ _+ℤ_ (u .is kind)
-            (sum-same (peak (rows kind starts′ ends′ rates′ 0 few)) (peak (rows kind starts ends rates lo hi)) at (to - at) (λ x a b. n .same kind x (omega arith) (omega arith)))
-            ∙ sym (sum-joined (peak (rows kind starts ends rates lo hi)) 1 at to (u .begun) h));
-      }
 
   pub upto-small : {at : ℕ} {sum : ℤ} → Sound 10000000000 starts ends rates lo hi → Upto starts ends rates lo hi at sum → natAbs sum ≤ 40000010000000000
   upto-small {at} s u = rw (u .is 0) (walk-size starts ends rates lo hi 1 4000001 0 1 s (omega (arith, u .bounded)))

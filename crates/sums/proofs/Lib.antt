@@ -1,3 +1,5 @@
 pub mod Filling
 pub mod Nearness
+pub mod Opening
 pub mod Pairs
+pub mod Spanning

@@ -1,15 +1,16 @@
--- Among many segments that give 0 one is as good as all: once 0 has entered a maximum, another 0 does not change it. So the rows off a window can be left
--- out but for the first, at every base of the window at once.
-use mathlib.Core.Path.{_≡_, refl, sym, _∙_}
+-- Among many segments that give 0 one is as good as all: once 0 has entered a maximum, another 0 does not change it. So of the rows that end before a base
+-- all but the first can be dropped, for every base from there on at once; and those that start behind a base do not matter there but for the first.
+use mathlib.Core.Path.{_≡_, refl, sym, subst, _∙_}
 use mathlib.Core.Logic.{_⊎_, inl, inr}
-use mathlib.Core.Bool.{Bool, true, false, not, cond, _&&_, _||_, true≢false}
-use mathlib.Core.List.{List, [], _∷_, _++_}
-use Prim.Native.Nat.{ℕ, _+_, _-_, _≤_, _<_}
+use mathlib.Core.Bool.{Bool, true, false, not, cond, _||_, true≢false}
+use mathlib.Core.List.{List, [], _∷_, _++_, append-nil, append-assoc}
+use Prim.Native.Nat.{ℕ, zero, suc, _+_, _-_, _≤_, _<_}
 use native.Mathlib.Omega.{arith}
-use borrow.Author.Tests.{ltb-false, leb-false}
-use lib.Dec.{ltb, leb}
+use borrow.Author.Tests.{leb-false}
+use lib.Dec.{leb}
 use lib.IntN.{ℤ, pos}
 use lib.ListN.{length, getD, set, length-set}
+use lib.Seq.{getD-set-other}
 use lib.Signed.{leZ}
 use Rattle.whole.specs.Whole.{larger-of}
 use Rattle.whole.proofs.Comparisons.{larger-kept, larger-above, larger-of-zero}
@@ -17,14 +18,14 @@ use Rattle.gaze.specs.declared.Segment.{Segment}
 use Rattle.gaze.specs.SegmentScore.{enters}
 use Rattle.gaze.proofs.ListLaws.{listed-none, listed-more}
 use Rattle.gaze.proofs.Tests.{at-or-below}
-use Rattle.rows.specs.Rows.{stretch, row, rows, Good}
+use Rattle.rows.specs.Rows.{stretch, row, rows, Good, Sound}
 use Rattle.rows.specs.Maximum.{Looked, Beaten}
-use Rattle.rows.specs.Peaks.{held}
+use Rattle.rows.specs.Peaks.{held, peak}
 use Rattle.rows.proofs.Picking.{Picked, pick-none, pick-step, looked-kept}
 use Rattle.rows.proofs.Plateaus.{held-before, held-behind}
 use Rattle.segment.specs.Choice.{Put, Room}
 use Rattle.segment.proofs.Choosing.{rows-put, goods-put}
-use Rattle.sums.specs.Window.{touching, Near}
+use Rattle.sums.specs.Window.{Alike, Near}
 
 -- ---- at one base
 -- the maximum over all and over part of them is the same; and where some were left out, 0 has entered it
@@ -82,114 +83,175 @@ module _ (x : ℕ) {all part all′ : List Segment} (g : Segment) (all-more : al
         zero-in = a .zero-in;
       }
 
--- a segment off the window gives 0 at its bases
-off-window : (from to x start end : ℕ) (z : ℤ) → touching from to start end ≡ false → from ≤ x → x < to → held x (stretch start end z) ≡ pos 0
-off-window from to x start end z h l u = go (ltb start to) (leb from end) refl refl h
+-- two lists that agree have the same peak, whatever is added to both
+agreed-alike : (x : ℕ) {one other : List Segment} {any : Bool} {value : ℤ} → Picked (enters x x) (held x) one any value → Picked (enters x x) (held x) other any value
+    → Alike x one other
+agreed-alike x {one} {other} p q [] = rw (append-nil one, append-nil other) (sym (p .value-is) ∙ q .value-is)
+agreed-alike x {one} {other} {any} {value} p q (g ∷ more) =
+    let look : Looked (enters x x g) any value (held x g) true (cond any (larger-of value (held x g)) (held x g)) = record { any-is = refl; value-is = refl } in
+    rw (← append-assoc one (g ∷ []) more, ← append-assoc other (g ∷ []) more)
+    (agreed-alike x (pick-step (enters x x) (held x) g refl p look) (pick-step (enters x x) (held x) g refl q look) more)
+
+-- a segment that ends before `from` gives 0 from there on
+ended : (from x start end : ℕ) (z : ℤ) → leb from end ≡ false → from ≤ x → held x (stretch start end z) ≡ pos 0
+ended from x start end z h l = at (at-or-below start x)
   where
-    behind : end < from → held x (stretch start end z) ≡ pos 0
-    behind e = at (at-or-below start x)
-      where
-        at : (start ≤ x) ⊎ (x < start) → held x (stretch start end z) ≡ pos 0
-        at (inl b) = held-behind x start end z b (omega arith)
-        at (inr b) = held-before x start end z b
+    at : (start ≤ x) ⊎ (x < start) → held x (stretch start end z) ≡ pos 0
+    at (inl b) = held-behind x start end z b (let k = leb-false from end h in omega arith)
+    at (inr b) = held-before x start end z b
 
-    go : (a b : Bool) → ltb start to ≡ a → leb from end ≡ b → a && b ≡ false → held x (stretch start end z) ≡ pos 0
-    go true true p q e = absurd (true≢false e)
-    go true false p q e = behind (leb-false from end q)
-    go false b p q e = held-before x start end z (let k = ltb-false start to p in omega arith)
+-- ---- rows are dropped where they stand: row i is looked at, o are kept so far, and from i on nothing is changed
+pub record Nearing (starts₀ ends₀ : List ℕ) (rates₀ : List ℤ) (from : ℕ) (starts ends : List ℕ) (rates : List ℤ) (i o : ℕ) (far : Bool) : Type 0 where
+  pub few : o ≤ i
+  pub starts-long : length starts ≡ length starts₀
+  pub ends-long : length ends ≡ length ends₀
+  pub rates-long : length rates ≡ length rates₀
+  pub starts-left : (j : ℕ) → i ≤ j → getD starts j 0 ≡ getD starts₀ j 0
+  pub ends-left : (j : ℕ) → i ≤ j → getD ends j 0 ≡ getD ends₀ j 0
+  pub rates-left : (j : ℕ) → i ≤ j → getD rates j (pos 0) ≡ getD rates₀ j (pos 0)
+  pub each : (j : ℕ) → 0 ≤ j → j < o → Good 10000000000 (getD starts j 0) (getD ends j 0) (getD rates j (pos 0))
+  pub agreed : (kind x : ℕ) → from ≤ x → Agreed x (rows kind starts₀ ends₀ rates₀ 0 i) (rows kind starts ends rates 0 o) far
 
--- ---- at every base of the window, row by row
-pub record Nearing (starts ends : List ℕ) (rates : List ℤ) (lo from to : ℕ) (starts₀ ends₀ : List ℕ) (rates₀ : List ℤ) (starts′ ends′ : List ℕ) (rates′ : List ℤ) (i o : ℕ) (far : Bool) : Type 0 where
-  pub few : o ≤ i - lo
-  pub starts-long : length starts′ ≡ length starts₀
-  pub ends-long : length ends′ ≡ length ends₀
-  pub rates-long : length rates′ ≡ length rates₀
-  pub each : (j : ℕ) → 0 ≤ j → j < o → Good 10000000000 (getD starts′ j 0) (getD ends′ j 0) (getD rates′ j (pos 0))
-  pub agreed : (kind x : ℕ) → from ≤ x → x < to → Agreed x (rows kind starts ends rates lo i) (rows kind starts′ ends′ rates′ 0 o) far
-
-module _ (starts ends : List ℕ) (rates : List ℤ) (lo from to : ℕ) (starts₀ ends₀ : List ℕ) (rates₀ : List ℤ) where
-  pub nearing-none : Nearing starts ends rates lo from to starts₀ ends₀ rates₀ starts₀ ends₀ rates₀ lo 0 false
+module _ (starts₀ ends₀ : List ℕ) (rates₀ : List ℤ) (from : ℕ) where
+  pub nearing-none : Nearing starts₀ ends₀ rates₀ from starts₀ ends₀ rates₀ 0 0 false
   nearing-none =
       record {
         few = omega arith;
         starts-long = refl;
         ends-long = refl;
         rates-long = refl;
+        starts-left = λ j h. refl;
+        ends-left = λ j h. refl;
+        rates-left = λ j h. refl;
         each = λ j l u. absurd (none-below j u);
-        agreed = λ kind x l u. agreed-none x (listed-none (row kind starts ends rates) lo lo refl) (listed-none (row kind starts₀ ends₀ rates₀) 0 0 refl);
+        agreed = λ kind x l. agreed-none x (listed-none (row kind starts₀ ends₀ rates₀) 0 0 refl) (listed-none (row kind starts₀ ends₀ rates₀) 0 0 refl);
       }
     where
       none-below : (j : ℕ) → j < 0 → ⊥
       none-below j u = omega arith
 
-  module _ {starts′ ends′ : List ℕ} {rates′ : List ℤ} {i o : ℕ} (lo-i : lo ≤ i) (good : Good 10000000000 (getD starts i 0) (getD ends i 0) (getD rates i (pos 0))) where
-    written : {far : Bool} (far′ : Bool) → Nearing starts ends rates lo from to starts₀ ends₀ rates₀ starts′ ends′ rates′ i o far → Room o 1 starts′ ends′ rates′
-        → (far′ ≡ true → (far ≡ true) ⊎ (touching from to (getD starts i 0) (getD ends i 0) ≡ false))
-        → Nearing starts ends rates lo from to starts₀ ends₀ rates₀ (set starts′ o (getD starts i 0)) (set ends′ o (getD ends i 0)) (set rates′ o (getD rates i (pos 0))) (i + 1) (o + 1) far′
+  module _ {starts ends : List ℕ} {rates : List ℤ} {i o : ℕ} (good : Good 10000000000 (getD starts₀ i 0) (getD ends₀ i 0) (getD rates₀ i (pos 0))) where
+    written : {far : Bool} (far′ : Bool) → Nearing starts₀ ends₀ rates₀ from starts ends rates i o far → Room o 1 starts ends rates
+        → (far′ ≡ true → (far ≡ true) ⊎ (leb from (getD ends₀ i 0) ≡ false))
+        → Nearing starts₀ ends₀ rates₀ from (set starts o (getD starts₀ i 0)) (set ends o (getD ends₀ i 0)) (set rates o (getD rates₀ i (pos 0))) (i + 1) (o + 1) far′
     written {far} far′ q room why =
-        let start = getD starts i 0 in
-        let end = getD ends i 0 in
-        let rate = getD rates i (pos 0) in
+        let start = getD starts₀ i 0 in
+        let end = getD ends₀ i 0 in
+        let rate = getD rates₀ i (pos 0) in
         record {
           few = omega (arith, q .few);
-          starts-long = length-set starts′ o start ∙ q .starts-long;
-          ends-long = length-set ends′ o end ∙ q .ends-long;
-          rates-long = length-set rates′ o rate ∙ q .rates-long;
-          each = goods-put 0 0 o start end rate starts′ ends′ rates′ room (q .each) good;
-          agreed = λ kind x l u.
-              agreed-kept x (row kind starts ends rates i) (listed-more (row kind starts ends rates) lo i lo-i) far far′
-              (rows-put kind 0 o start end rate starts′ ends′ rates′ room (omega arith)) (q .agreed kind x l u)
-              (λ e. reason x l u (why e));
+          starts-long = length-set starts o start ∙ q .starts-long;
+          ends-long = length-set ends o end ∙ q .ends-long;
+          rates-long = length-set rates o rate ∙ q .rates-long;
+          starts-left = λ j h. getD-set-other starts o j start 0 (λ e. omega (arith, q .few)) ∙ q .starts-left j (omega arith);
+          ends-left = λ j h. getD-set-other ends o j end 0 (λ e. omega (arith, q .few)) ∙ q .ends-left j (omega arith);
+          rates-left = λ j h. getD-set-other rates o j rate (pos 0) (λ e. omega (arith, q .few)) ∙ q .rates-left j (omega arith);
+          each = goods-put 0 0 o start end rate starts ends rates room (q .each) good;
+          agreed = λ kind x l.
+              agreed-kept x (row kind starts₀ ends₀ rates₀ i) (listed-more (row kind starts₀ ends₀ rates₀) 0 i (omega arith)) far far′
+              (rows-put kind 0 o start end rate starts ends rates room (omega arith)) (q .agreed kind x l) (λ e. reason x l (why e));
         }
       where
-        reason : (x : ℕ) → from ≤ x → x < to → (far ≡ true) ⊎ (touching from to (getD starts i 0) (getD ends i 0) ≡ false)
-            → (far ≡ true) ⊎ (held x (stretch (getD starts i 0) (getD ends i 0) (getD rates i (pos 0))) ≡ pos 0)
-        reason x l u (inl e) = inl e
-        reason x l u (inr e) = inr (off-window from to x (getD starts i 0) (getD ends i 0) (getD rates i (pos 0)) e l u)
+        reason : (x : ℕ) → from ≤ x → (far ≡ true) ⊎ (leb from (getD ends₀ i 0) ≡ false)
+            → (far ≡ true) ⊎ (held x (stretch (getD starts₀ i 0) (getD ends₀ i 0) (getD rates₀ i (pos 0))) ≡ pos 0)
+        reason x l (inl e) = inl e
+        reason x l (inr e) = inr (ended from x (getD starts₀ i 0) (getD ends₀ i 0) (getD rates₀ i (pos 0)) e l)
 
-    left-out : touching from to (getD starts i 0) (getD ends i 0) ≡ false → Nearing starts ends rates lo from to starts₀ ends₀ rates₀ starts′ ends′ rates′ i o true
-        → Nearing starts ends rates lo from to starts₀ ends₀ rates₀ starts′ ends′ rates′ (i + 1) o true
+    left-out : leb from (getD ends₀ i 0) ≡ false → Nearing starts₀ ends₀ rates₀ from starts ends rates i o true
+        → Nearing starts₀ ends₀ rates₀ from starts ends rates (i + 1) o true
     left-out h q =
         record {
           few = omega (arith, q .few);
           starts-long = q .starts-long;
           ends-long = q .ends-long;
           rates-long = q .rates-long;
+          starts-left = λ j l. q .starts-left j (omega arith);
+          ends-left = λ j l. q .ends-left j (omega arith);
+          rates-left = λ j l. q .rates-left j (omega arith);
           each = q .each;
-          agreed = λ kind x l u.
-              agreed-left x (row kind starts ends rates i) (listed-more (row kind starts ends rates) lo i lo-i)
-              (off-window from to x (getD starts i 0) (getD ends i 0) (getD rates i (pos 0)) h l u) (q .agreed kind x l u);
+          agreed = λ kind x l.
+              agreed-left x (row kind starts₀ ends₀ rates₀ i) (listed-more (row kind starts₀ ends₀ rates₀) 0 i (omega arith))
+              (ended from x (getD starts₀ i 0) (getD ends₀ i 0) (getD rates₀ i (pos 0)) h l) (q .agreed kind x l);
         }
 
-    pub nearing-more : {starts″ ends″ : List ℕ} {rates″ : List ℤ} {o′ : ℕ} (touches far far′ : Bool) → touches ≡ touching from to (getD starts i 0) (getD ends i 0)
-        → Nearing starts ends rates lo from to starts₀ ends₀ rates₀ starts′ ends′ rates′ i o far → Room o 1 starts′ ends′ rates′
-        → Put (touches || not far) o (getD starts i 0) (getD ends i 0) (getD rates i (pos 0)) starts′ ends′ rates′ o′ starts″ ends″ rates″ → far′ ≡ (far || not touches)
-        → Nearing starts ends rates lo from to starts₀ ends₀ rates₀ starts″ ends″ rates″ (i + 1) o′ far′
-    nearing-more true true far′ t q room p e = rw (p .o-is, p .starts-is, p .ends-is, p .scores-is, e) (written true q room (λ y. inl refl))
-    nearing-more true false far′ t q room p e = rw (p .o-is, p .starts-is, p .ends-is, p .scores-is, e) (written false q room (λ y. absurd (true≢false (sym y))))
-    nearing-more false true far′ t q room p e = rw (p .o-is, p .starts-is, p .ends-is, p .scores-is, e) (left-out (sym t) q)
-    nearing-more false false far′ t q room p e = rw (p .o-is, p .starts-is, p .ends-is, p .scores-is, e) (written true q room (λ y. inr (sym t)))
+    one-more : {starts′ ends′ : List ℕ} {rates′ : List ℤ} {o′ : ℕ} (lasts far far′ : Bool) → lasts ≡ leb from (getD ends₀ i 0)
+        → Nearing starts₀ ends₀ rates₀ from starts ends rates i o far → Room o 1 starts ends rates
+        → Put (lasts || not far) o (getD starts₀ i 0) (getD ends₀ i 0) (getD rates₀ i (pos 0)) starts ends rates o′ starts′ ends′ rates′ → far′ ≡ (far || not lasts)
+        → Nearing starts₀ ends₀ rates₀ from starts′ ends′ rates′ (i + 1) o′ far′
+    one-more true true far′ t q room p e = rw (p .o-is, p .starts-is, p .ends-is, p .scores-is, e) (written true q room (λ y. inl refl))
+    one-more true false far′ t q room p e = rw (p .o-is, p .starts-is, p .ends-is, p .scores-is, e) (written false q room (λ y. absurd (true≢false (sym y))))
+    one-more false true far′ t q room p e = rw (p .o-is, p .starts-is, p .ends-is, p .scores-is, e) (left-out (sym t) q)
+    one-more false false far′ t q room p e = rw (p .o-is, p .starts-is, p .ends-is, p .scores-is, e) (written true q room (λ y. inr (sym t)))
 
-  pub nearing-room : {starts′ ends′ : List ℕ} {rates′ : List ℤ} {i o n : ℕ} {far : Bool} → i - lo < n → Room 0 n starts₀ ends₀ rates₀
-      → Nearing starts ends rates lo from to starts₀ ends₀ rates₀ starts′ ends′ rates′ i o far → Room o 1 starts′ ends′ rates′
+    pub nearing-more : {starts′ ends′ : List ℕ} {rates′ : List ℤ} {o′ : ℕ} (far far′ : Bool)
+        → Nearing starts₀ ends₀ rates₀ from starts ends rates i o far → Room o 1 starts ends rates
+        → Put (leb from (getD ends i 0) || not far) o (getD starts i 0) (getD ends i 0) (getD rates i (pos 0)) starts ends rates o′ starts′ ends′ rates′
+        → far′ ≡ (far || not (leb from (getD ends i 0))) → Nearing starts₀ ends₀ rates₀ from starts′ ends′ rates′ (i + 1) o′ far′
+    nearing-more far far′ q room p e =
+        let s = q .starts-left i (omega arith) in
+        let t = q .ends-left i (omega arith) in
+        let r = q .rates-left i (omega arith) in
+        one-more (leb from (getD ends₀ i 0)) far far′ refl q room (rw (s, t, r) at p) (rw t at e)
+
+  pub nearing-room : {starts ends : List ℕ} {rates : List ℤ} {i o count : ℕ} {far : Bool} → i < count → Sound 10000000000 starts₀ ends₀ rates₀ 0 count
+      → Nearing starts₀ ends₀ rates₀ from starts ends rates i o far → Room o 1 starts ends rates
   nearing-room h r q =
       record {
-        starts-room = omega (arith, q .few, q .starts-long, r .starts-room);
-        ends-room = omega (arith, q .few, q .ends-long, r .ends-room);
-        scores-room = omega (arith, q .few, q .rates-long, r .scores-room);
+        starts-room = omega (arith, q .few, q .starts-long, r .starts-long);
+        ends-room = omega (arith, q .few, q .ends-long, r .ends-long);
+        scores-room = omega (arith, q .few, q .rates-long, r .scores-long);
       }
 
-  pub nearing-all : {starts′ ends′ : List ℕ} {rates′ : List ℤ} {o : ℕ} {far : Bool} (hi : ℕ) → Room 0 (hi - lo) starts₀ ends₀ rates₀
-      → Nearing starts ends rates lo from to starts₀ ends₀ rates₀ starts′ ends′ rates′ hi o far → Near starts ends rates lo hi from to o starts′ ends′ rates′
-  nearing-all hi r q =
-      record {
+  pub nearing-all : {starts ends : List ℕ} {rates : List ℤ} {i o count : ℕ} {far : Bool} → i ≡ count → Sound 10000000000 starts₀ ends₀ rates₀ 0 count
+      → Nearing starts₀ ends₀ rates₀ from starts ends rates i o far → Near starts₀ ends₀ rates₀ from count o starts ends rates
+  nearing-all {o = o} e r q =
+      rw (← e)
+      (record {
         few = q .few;
         sound = record {
           ordered = omega arith;
-          starts-long = omega (arith, q .few, q .starts-long, r .starts-room);
-          ends-long = omega (arith, q .few, q .ends-long, r .ends-room);
-          scores-long = omega (arith, q .few, q .rates-long, r .scores-room);
+          starts-long = omega (arith, q .few, q .starts-long, r .starts-long);
+          ends-long = omega (arith, q .few, q .ends-long, r .ends-long);
+          scores-long = omega (arith, q .few, q .rates-long, r .scores-long);
           each = q .each;
         };
-        same = λ kind x l u. let a = q .agreed kind x l u in sym (a .part-is .value-is) ∙ a .all-is .value-is;
+        alike = λ kind x l. let a = q .agreed kind x l in agreed-alike x (a .part-is) (a .all-is);
+      })
+
+-- ---- rows that start behind a base
+module _ (starts ends : List ℕ) (rates : List ℤ) (lo next hi kind x : ℕ) (begun : lo ≤ next) (behind : (k : ℕ) → next ≤ k → k < hi → x < getD starts k 0) where
+  same-list : (l : List Segment) → Agreed x l l false
+  same-list l =
+      record {
+        any = _;
+        value = _;
+        all-is = record { any-is = refl; value-is = refl };
+        part-is = record { any-is = refl; value-is = refl };
+        zero-in = λ e. absurd (true≢false (sym e));
       }
+
+  gives-none : (k : ℕ) → next ≤ k → k < hi → held x (row kind starts ends rates k) ≡ pos 0
+  gives-none k l h = held-before x (getD starts k 0) (getD ends k 0) (getD rates k (pos 0)) (behind k l h)
+
+  later-first : next < hi → Agreed x (rows kind starts ends rates lo (next + 1)) (rows kind starts ends rates lo (next + 1)) true
+  later-first h =
+      agreed-kept x (row kind starts ends rates next) (listed-more (row kind starts ends rates) lo next begun) false true
+      (listed-more (row kind starts ends rates) lo next begun) (same-list (rows kind starts ends rates lo next)) (λ t. inr (gives-none next (omega arith) h))
+
+  later-one : (k : ℕ) → next < k → k < hi → Agreed x (rows kind starts ends rates lo k) (rows kind starts ends rates lo (next + 1)) true
+      → Agreed x (rows kind starts ends rates lo (k + 1)) (rows kind starts ends rates lo (next + 1)) true
+  later-one k l h a =
+      agreed-left x (row kind starts ends rates k) (listed-more (row kind starts ends rates) lo k (omega arith)) (gives-none k (omega arith) h) a
+
+  later : (n m : ℕ) → next + 1 + n ≡ m → m ≤ hi → Agreed x (rows kind starts ends rates lo m) (rows kind starts ends rates lo (next + 1)) true
+  later zero m e h =
+      let f : next + 1 ≡ m = omega arith in
+      subst (λ (k : ℕ). Agreed x (rows kind starts ends rates lo k) (rows kind starts ends rates lo (next + 1)) true) f (later-first (omega arith))
+  later (suc n) m e h =
+      let f : next + 1 + n + 1 ≡ m = omega arith in
+      subst (λ (k : ℕ). Agreed x (rows kind starts ends rates lo k) (rows kind starts ends rates lo (next + 1)) true) f
+      (later-one (next + 1 + n) (omega arith) (omega arith) (later n (next + 1 + n) refl (omega arith)))
+
+  -- the first of them is as good as all
+  pub first-enough : next < hi → peak (rows kind starts ends rates lo (next + 1)) x ≡ peak (rows kind starts ends rates lo hi) x
+  first-enough h = let a = later (hi - (next + 1)) hi (omega arith) (omega arith) in sym (a .part-is .value-is) ∙ a .all-is .value-is

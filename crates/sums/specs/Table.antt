@@ -4,11 +4,12 @@ use mathlib.Core.Path.{_≡_}
 use mathlib.Core.Bool.{Bool, true, false}
 use mathlib.Core.List.{List}
 use Prim.Native.Nat.{ℕ, _+_, _-_, _*_, _≤_, _<_}
-use lib.IntN.{ℤ, pos, natAbs, _+ℤ_}
+use lib.IntN.{ℤ, pos, natAbs}
 use lib.ListN.{length, getD}
 use Rattle.gaze.specs.SegmentScore.{sum-over}
 use Rattle.rows.specs.Rows.{rows}
 use Rattle.rows.specs.Peaks.{peak}
+use Rattle.slots.specs.Search.{Rising}
 
 -- Candidates' positions never fall.
 pub record Places (positions : List ℕ) (n : ℕ) : Type 0 where
@@ -23,11 +24,6 @@ pub record Upto (starts ends : List ℕ) (rates : List ℤ) (lo hi at : ℕ) (su
   pub begun : 1 ≤ at
   pub bounded : at ≤ 4000001
   pub is : (kind : ℕ) → sum ≡ sum-over (peak (rows kind starts ends rates lo hi)) 1 (at - 1)
-
--- The sum of the peaks, from one base to another.
-pub record Onward (starts ends : List ℕ) (rates : List ℤ) (lo hi at : ℕ) (sum : ℤ) (to at′ : ℕ) (sum′ : ℤ) : Type 0 where
-  pub there : at′ ≡ to
-  pub is : (kind : ℕ) → sum′ ≡ sum +ℤ sum-over (peak (rows kind starts ends rates lo hi)) at (to - at)
 
 -- For each of the first n positions the sums up to it, without it and with it, from `base` on.
 pub record Filled (starts ends : List ℕ) (rates : List ℤ) (lo hi : ℕ) (positions : List ℕ) (base n : ℕ) (table : List ℤ) : Type 0 where
@@ -63,12 +59,13 @@ pub record Running (flags : List Bool) (at starts ends : List ℕ) (rates : List
   pub room : (j : ℕ) → j < 64 → getD flags j false ≡ true → 131328 ≤ length table
   pub held : (j : ℕ) → j < 64 → getD flags j false ≡ true → Sums flags at starts ends rates positions n 64 table
 
--- What the filling asks: the slots' bounds rise, and no slot has more rows than a sheet has segments.
-pub record Filling (at : List ℕ) (total : ℕ) (used : List Bool) (table : List ℤ) : Type 0 where
+-- What the filling asks: the slots' bounds rise, no slot has more rows than a sheet has segments, and these stand in the order of their starts.
+pub record Filling (at starts : List ℕ) (total : ℕ) (used : List Bool) (table : List ℤ) : Type 0 where
   pub at-long : 64 < length at
   pub ordered : (j : ℕ) → j < 64 → getD at j 0 ≤ getD at (j + 1) 0
   pub within : (j : ℕ) → j < 64 → getD at (j + 1) 0 ≤ total
   pub few : (j : ℕ) → j < 64 → getD at (j + 1) 0 - getD at j 0 ≤ 1024
+  pub rising : (j : ℕ) → j < 64 → Rising starts (getD at j 0) (getD at (j + 1) 0)
   pub used-long : 64 ≤ length used
   pub room : 131328 ≤ length table
   pub small : Small table

@@ -51,7 +51,7 @@ fill-if-used-requires c κs =
     let h : l .j < 64 = c .before .before .before .before .loop-test .taken in
     let p = b .pre .1 .1 in (
       sound-within (getD (a .at .now) (l .j) 0) (getD (a .at .now) (l .j + 1) 0) (omega arith) (p .ordered (l .j) h) (p .within (l .j) h) (b .pre .0),
-      (p .few (l .j) h, (b .pre .1 .0, omega (arith, l .inv .1 .0, p .room, b .pre .1 .0 .few))),
+      (p .rising (l .j) h, (p .few (l .j) h, (b .pre .1 .0, omega (arith, l .inv .1 .0, p .room, b .pre .1 .0 .few)))),
     )
 
 add-j : tie.Need-add-j Inv-loop μ-loop
