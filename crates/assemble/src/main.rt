@@ -1,5 +1,7 @@
 // Reads a sheet from standard input, and prints the reply to it and its best chain.
 
+#![tactic(auto)]
+
 use libc::{STDIN_FILENO, STDOUT_FILENO};
 
 fn main() {

@@ -1,6 +1,8 @@
 // Chains over rows of steps: the choice among the sources of one target, the chain that the chosen sources give, and whether a list is a chain.
 // Where the steps come from is the business of the crates above.
 
+#![tactic(auto)]
+
 ghost use Rattle.std.specs.Prelude.{◌≡◌, not, ◌++◌, reverse, ◌+◌, ◌-◌, ◌<◌, ◌≤◌, T, length, drop};
 ghost use Rattle.gaze.specs.Chain.{Steps, Chain};
 ghost use Rattle.chains.specs.Answer.{Finished, Answers};

@@ -1,5 +1,7 @@
 // Lays numbers of rows side by side: one number of each row makes a column, several make rows of another width.
 
+#![tactic(auto)]
+
 ghost use Rattle.std.specs.Prelude.{◌≡◌, map, ◌+◌, ◌≤◌, ◌<◌, length, take};
 ghost use Rattle.std.proofs.lemmas.List.Edits.{sets};
 ghost use Rattle.gaze.specs.Lists.{listed};

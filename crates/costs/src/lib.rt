@@ -1,5 +1,7 @@
 // What the steps into a target cost and what the target adds: from a row of region scores to a row of gains.
 
+#![tactic(auto)]
+
 ghost use Rattle.std.specs.Prelude.{◌≡◌, true, cond, ◌≤◌, length};
 ghost use Rattle.gaze.specs.Sheet.{Sheet, end_number};
 ghost use Rattle.lines.specs.Regions.{RegionRow};

@@ -1,5 +1,7 @@
 // The engine: the best chain of a sheet that is held in columns.
 
+#![tactic(auto)]
+
 ghost use Rattle.std.specs.Prelude.{◌≡◌, suc, List, ◌≤◌, length};
 ghost use Rattle.gaze.specs.Sheet.{Sheet, end_number};
 ghost use Rattle.gaze.specs.Step.{steps};

@@ -14,11 +14,26 @@ use Rattle.whole.proofs.Order.{≤ℤ_antisymm}
 use Rattle.gaze.proofs.Entries.{all_legal}
 use Rattle.gaze.proofs.Tests.{at_or_below}
 
+later_apart : {x y u v : List ℕ} → Later x y → Later u v → u ≡ y → v ≡ x → ⊥
+later_apart (here {a = a} {b = b} h) (here {a = c} {b = d} k) e f =
+    let p : c ≡ b = cc in
+    let q : d ≡ a = cc in
+    omega arith
+later_apart (here {a = a} {b = b} h) (there {a = c} k) e f =
+    let p : c ≡ b = cc in
+    let q : c ≡ a = cc in
+    omega arith
+later_apart (there {a = a} h) (here {a = c} {b = d} k) e f =
+    let p : c ≡ a = cc in
+    let q : d ≡ a = cc in
+    omega arith
+later_apart (there {x = x} {y = y} h) (there {x = u} {y = v} k) e f =
+    let p : u ≡ y = cc in
+    let q : v ≡ x = cc in
+    later_apart h k p q
+
 later_asym : {x y : List ℕ} → Later x y → Later y x → ⊥
-later_asym (here h) (here k) = omega arith
-later_asym (here h) (there q) = omega arith
-later_asym (there p) (here k) = omega arith
-later_asym (there p) (there q) = later_asym p q
+later_asym h k = later_apart h k refl refl
 
 module _ (m : Steps) (e : ℕ) where
   pub best_unique : (c d : List ℕ) → Best m e c → Best m e d → c ≡ d

@@ -2,6 +2,9 @@
 // `kind` is a type number, of a feature or of a segment; 0 is BEGIN's and 1 is END's.
 
 // A point of a length penalty function.
+
+#![tactic(auto)]
+
 #[derive(Drop)]
 pub struct Point {
     pub function: u32,

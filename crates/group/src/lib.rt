@@ -1,5 +1,7 @@
 // Reads the lines of one group, whichever it is, into a table of rows, up to the first line at fault.
 
+#![tactic(auto)]
+
 ghost use Rattle.std.specs.Prelude.{◌≡◌, [], ◌+◌, ◌≤◌, length, take};
 ghost use Rattle.kinds.specs.Kinds.{most_of};
 ghost use Rattle.text.specs.Lines.{lines};

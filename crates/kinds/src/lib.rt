@@ -1,6 +1,8 @@
 // The six groups of lines, each known by its letter: how many fields a line has, how many lines a group may have, the ranges of the fields, and
 // the order of the lines. A row holds a line's numbers from its place 0 on.
 
+#![tactic(auto)]
+
 ghost use Rattle.std.specs.Prelude.{◌≡◌, [], ◌∷◌, ◌<◌, ◌≤◌, pos};
 ghost use Rattle.std.specs.Int.Signed.{le_z};
 ghost use Rattle.kinds.specs.Kinds.{byte_of, fields_of, most_of, between, field, thousandths, source_type, interruption, in_range};

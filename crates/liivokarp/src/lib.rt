@@ -1,6 +1,8 @@
 // The library that a host links. Every public function takes whatever is lent and answers with a reply; its contract says which, by the rows of the
 // table of replies.
 
+#![tactic(auto)]
+
 ghost use Rattle.std.specs.Prelude.{◌≡◌, List, ◌+◌, ◌≤◌, min, length};
 ghost use Rattle.gaze.specs.declared.Segment.{Segment};
 ghost use Rattle.gaze.specs.Chain.{Judged};

@@ -1,5 +1,7 @@
 // Q lines by the pair of types that they qualify: where each pair's lines begin and end, so that a step looks at its own lines only.
 
+#![tactic(auto)]
+
 ghost use Rattle.std.specs.Prelude.{◌≡◌, List, ℕ, ◌+◌, ◌*◌, ◌<◌, ◌≤◌, length, get_or};
 ghost use Rattle.gaze.specs.declared.Qualifier.{Qualifier};
 ghost use Rattle.gaze.specs.Columns.{qualifier_at};

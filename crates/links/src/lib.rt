@@ -1,5 +1,7 @@
 // Refusal 6: looks for a Q line without its rule, and for a rule whose function has no point.
 
+#![tactic(auto)]
+
 ghost use Rattle.std.specs.Prelude.{◌≡◌, ◌+◌, ◌*◌, ◌≤◌, eqb, pos, nat_abs, length, get_or};
 ghost use Rattle.gaze.specs.Lists.{some_of, listed};
 ghost use Rattle.gaze.specs.Columns.{rule_at};

@@ -1,6 +1,8 @@
 // The length penalty of a function at a distance. The points of functions 1 to 16 are columns, in strict order by function and distance;
 // a function's are the rows `first[f]` to `first[f + 1]`, the last left out. Function 17 is a table.
 
+#![tactic(auto)]
+
 mod intron;
 
 ghost use Rattle.std.specs.Prelude.{◌≡◌, ℕ, ◌+◌, ◌<◌, ◌≤◌, length};

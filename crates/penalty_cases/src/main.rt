@@ -1,5 +1,7 @@
 // Penalties at distances before, at, between and beyond points: each is compared with the number that it has to be.
 
+#![tactic(auto)]
+
 ghost use Rattle.std.specs.Prelude.{◌≡◌, ◌≤◌};
 ghost use Rattle.gaze.specs.Penalty.{penalty};
 ghost use Rattle.penalty_cases.specs.Cases.{points};

@@ -1,6 +1,8 @@
 // Text in a buffer: words, numbers and lines are pushed one behind the other, each function answering where the next begins, so that a program can
 // write all that it has to say at once. What does not fit is left out.
 
+#![tactic(auto)]
+
 ghost use Rattle.std.specs.Prelude.{◌≡◌, ◌≤◌, nat_abs, length};
 ghost use Rattle.io.specs.Counts.{IsPrefixLen};
 

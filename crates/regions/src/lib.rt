@@ -1,6 +1,8 @@
 // The region score of each step into a target: the sum over the Q lines of the step's pair of types, each over the rows of the slot that it asks
 // for.
 
+#![tactic(auto)]
+
 ghost use Rattle.std.specs.Prelude.{◌≡◌, ◌+◌, ◌*◌, ◌<◌, ◌≤◌, length, get_or, true};
 ghost use Rattle.rows.specs.Rows.{scored};
 ghost use Rattle.slots.specs.Slots.{slot_rows};

@@ -1,5 +1,7 @@
 // What is printed of a sheet: the reply to it, and under the reply a line for each entry of its best chain.
 
+#![tactic(auto)]
+
 ghost use Rattle.std.specs.Prelude.{◌≤◌, length};
 ghost use Rattle.io.specs.Counts.{IsPrefixLen};
 

@@ -1,6 +1,8 @@
 // The score of rows of segments over one region, by either method. Columns hold a segment's start, end and score, or its rate in the place of the
 // score; `lo` to `hi` are rows, `hi` left out. All rows count: which do, another crate says.
 
+#![tactic(auto)]
+
 ghost use Rattle.std.specs.Prelude.{◌≡◌, true, false, ℕ, ◌+◌, ◌-◌, ◌<◌, ◌≤◌, min, max, length};
 ghost use Rattle.gaze.specs.SegmentScore.{enters, share, largest_share, rate, sum_over};
 ghost use Rattle.rows.specs.Rows.{stretch, rows, Good, Sound, scored, Rated};

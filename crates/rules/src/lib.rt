@@ -1,6 +1,8 @@
 // Rules: which one a pair of candidates has, by a table, and whether the pair meets all of it. Interruption, from the source or from the
 // target, is one comparison for each pair: of the source's position with the last interrupter before the target.
 
+#![tactic(auto)]
+
 ghost use Rattle.std.specs.Prelude.{◌≡◌, ◌||◌, ◌&&◌, ℕ, ◌+◌, ◌*◌, ◌-◌, ◌<◌, ◌≤◌, eqb, length};
 ghost use Rattle.gaze.specs.Sheet.{Sheet, candidate, end_number};
 ghost use Rattle.gaze.specs.Step.{meets_distance, meets_phase};

@@ -1,5 +1,7 @@
 // The segment score of a Q line over one region, from a sheet's columns of segments: which of them count, and their score.
 
+#![tactic(auto)]
+
 ghost use Rattle.std.specs.Prelude.{◌≡◌, ◌||◌, ℕ, ◌-◌, ◌≤◌, eqb, pos, length};
 ghost use Rattle.gaze.specs.Lists.{keep, listed};
 ghost use Rattle.gaze.specs.Columns.{segment_at};

@@ -1,5 +1,7 @@
 // Segment scores of small cases, one on a line: both methods, every match, a phase of a negative difference, and the ends of the ranges.
 
+#![tactic(auto)]
+
 ghost use Rattle.std.specs.Prelude.{◌≡◌, ◌≤◌};
 ghost use Rattle.gaze.specs.SegmentScore.{segment_score};
 ghost use Rattle.segment_cases.specs.Cases.{cases};

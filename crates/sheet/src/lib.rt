@@ -1,5 +1,7 @@
 // Reads a sheet: refuses it with a number and a place, or hands over the columns that hold it.
 
+#![tactic(auto)]
+
 ghost use Rattle.std.specs.Prelude.{◌≡◌, [], ◌∷◌, length};
 ghost use Rattle.group.specs.Group.{no_fault};
 ghost use Rattle.sheet.specs.Reading.{or_else, first_fault, groups_of, of_groups, reading};

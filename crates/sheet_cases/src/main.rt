@@ -1,6 +1,8 @@
 // The shortest sheets, and those that are too long for worked examples, built in a buffer and read: as many F lines as there may be and one more, and as many bytes as a sheet may
 // have and one more. Each case prints its groups, its size, and the number and place of its reading.
 
+#![tactic(auto)]
+
 use libc::STDOUT_FILENO;
 use printing::{push, push_lines, push_trailer};
 

@@ -1,6 +1,8 @@
 // Segments grouped once by type and by the remainder of their start, so that a Q line finds the rows that can count for a target in one place; and of
 // such a slot the rows that start at a source or end at a target.
 
+#![tactic(auto)]
+
 ghost use Rattle.std.specs.Prelude.{◌≡◌, ◌&&◌, ℕ, ◌-◌, ◌<◌, ◌≤◌, length};
 ghost use Rattle.gaze.specs.Lists.{keep, listed};
 ghost use Rattle.gaze.specs.Columns.{segment_at};

@@ -1,5 +1,7 @@
 // The steps into one target: for each source whether the step is legal, and what it gains, as two rows.
 
+#![tactic(auto)]
+
 ghost use Rattle.std.specs.Prelude.{◌≡◌, ◌≤◌, length};
 ghost use Rattle.gaze.specs.Sheet.{Sheet, end_number};
 ghost use Rattle.rows.specs.Rows.{Sound};

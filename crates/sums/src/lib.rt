@@ -1,6 +1,8 @@
 // Running sums at the candidates' positions, filled once for each slot that is used, so that a pair's score by method 2 with match 0 is one subtraction
 // and one quotient. The table has two numbers for each of 64 slots and 1,026 candidates.
 
+#![tactic(auto)]
+
 ghost use Rattle.std.specs.Prelude.{◌≡◌, true, not, ◌||◌, ℕ, ◌+◌, ◌*◌, ◌-◌, ◌<◌, ◌≤◌, pos, nat_abs, ◌+ℤ◌, ◌-ℤ◌, ◌*ℤ◌, length, get_or};
 ghost use Rattle.std.specs.Int.Signed.{le_z};
 ghost use Rattle.whole.specs.Whole.{floor_of};

@@ -1,5 +1,7 @@
 // Reads each group of a sheet into columns of numbers. The rows that a group is read into live no longer than that.
 
+#![tactic(auto)]
+
 ghost use Rattle.std.specs.Prelude.{◌≤◌, length};
 ghost use Rattle.kinds.specs.Kinds.{most_of};
 ghost use Rattle.tables.specs.Parts.{group_at, Part, PartRead};

@@ -1,5 +1,7 @@
 // Reads numbers, words and lines of a text. Which byte separates and which letter begins a line is the caller's to say.
 
+#![tactic(auto)]
+
 ghost use Rattle.std.specs.Prelude.{◌≡◌, true, ◌≤◌, length};
 ghost use Rattle.text.specs.Number.{is_digit, all_digits, value, leading_zero, plain, unsigned, negative, number};
 ghost use Rattle.text.specs.Words.{next_place};

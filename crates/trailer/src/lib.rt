@@ -1,5 +1,7 @@
 // Reads the trailer of a sheet: its last line, which says where the groups begin.
 
+#![tactic(auto)]
+
 ghost use Rattle.std.specs.Prelude.{◌≡◌, ◌<◌, ◌≤◌, length};
 ghost use Rattle.kinds.specs.Kinds.{field};
 ghost use Rattle.trailer.specs.Trailer.{begins, last_begin, offset, no_trailer, trailer_of};

@@ -1,6 +1,8 @@
 // The bench values of the scope that are not proved as theorems, every reply at least once, and the sheets of the folder `data`. Each case prints its name
 // and the reply; where the best chain was asked for, also how many entries of the lent buffer are as they were, or the whole report.
 
+#![tactic(auto)]
+
 ghost use Rattle.std.specs.Prelude.{◌≤◌, length};
 ghost use Rattle.io.specs.Counts.{IsPrefixLen};
 

@@ -15,7 +15,7 @@ small_fits z b h l = record { sfits = omega (arith, mag_le z) }
 
 -- a call's result, read back from its bits: `back c.f.result c.f.ok`
 pub back : (z : ℤ) → mag z < 2 ^ 63 → to_z w64 (of_z w64 z) ≡ z
-back z h = to_z-of_z (record { sfits = h })
+back z h = to_z-of_z {w = w64} (record { sfits = h })
 
 pub small_back : (z : ℤ) (b : ℕ) → nat_abs z ≤ b → b < 2 ^ 63 → to_z w64 (of_z w64 z) ≡ z
 small_back z b h l = to_z-of_z (small_fits z b h l)
