@@ -74,8 +74,8 @@ fn tables_of(columns: Columns) -> Prepared
 
 // The best chain of the sheet that the columns hold, written into the front of `chain`.
 fn best_of(columns: Columns, chain: &mut [u32]) -> Found
-    requires fact_1 { HeldSheet columns }
-    requires fact_2 { columns.features + 2 ≤ length chain.old }
+    requires held { HeldSheet columns }
+    requires room { columns.features + 2 ≤ length chain.old }
     ensures { (sheet : Sheet) → HoldsSheet sheet columns → Answers (steps sheet) (end_number sheet) chain.old result chain.new }
 {
     let tables = tables_of(columns);
@@ -103,8 +103,7 @@ fn found_reply(found: Found) -> Reply
 }
 
 // The best structure of a sheet, whose chain is written into the front of `chain`.
-#[unsafe(no_mangle)]
-pub extern "C" fn lk_assemble(sheet: &[u8], chain: &mut [u32]) -> Reply
+pub fn lk_assemble(sheet: &[u8], chain: &mut [u32]) -> Reply
     ensures { Assembles sheet.now chain.old result chain.new }
 {
     let columns = sheet::read(sheet);
@@ -148,8 +147,7 @@ fn verdict_reply(verdict: Verdict, count: usize) -> Reply
 }
 
 // The score of a chain that is lent, or why it has none.
-#[unsafe(no_mangle)]
-pub extern "C" fn lk_score_chain(sheet: &[u8], chain: &[u32]) -> Reply
+pub fn lk_score_chain(sheet: &[u8], chain: &[u32]) -> Reply
     ensures { ScoresChain sheet.now chain.now result }
 {
     let columns = sheet::read(sheet);
@@ -176,8 +174,7 @@ fn region_score(region: Region, rows: [Segment; 1024], len: usize) -> Reply
 }
 
 // The score of one region over segments that are lent as records.
-#[unsafe(no_mangle)]
-pub extern "C" fn lk_region_score(region: Region, records: &[Segment]) -> Reply
+pub fn lk_region_score(region: Region, records: &[Segment]) -> Reply
     ensures { ScoresRegion region records.now result }
 {
     let len = records.len();

@@ -3,6 +3,4 @@ pub mod Faults
 pub mod Columns
 pub mod Fronts
 pub mod Accepted
-pub mod Rows
-pub mod While
 pub mod Worked

@@ -178,8 +178,8 @@ fn spread(
     ends: &mut [u32],
     scores: &mut [i64],
 )
-    requires fact_1 { n ≤ 1024 }
-    requires fact_2 { Long kinds.old starts.old ends.old scores.old }
+    requires few { n ≤ 1024 }
+    requires room { Long kinds.old starts.old ends.old scores.old }
     ensures long { Long kinds.new starts.new ends.new scores.new }
     ensures segments { Segments (take n rows) kinds.new starts.new ends.new scores.new }
 {
