@@ -175,7 +175,7 @@ fn edge(x: u32, start: u32, end: u32, next: u32) -> u32
 }
 
 // A peak, and the base up to which it stays the same.
-#[derive(Drop)]
+#[derive(Clone, Copy)]
 pub struct Plateau {
     pub value: i64,
     pub next: u32,
