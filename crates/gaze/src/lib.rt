@@ -1,11 +1,10 @@
 // The declared types of the GAZE method: what the lines of a sheet say, and what is said of a chain sent in. Nothing is computed here.
 // `kind` is a type number, of a feature or of a segment; 0 is BEGIN's and 1 is END's.
 
-// A point of a length penalty function.
-
 #![tactic(auto)]
 
-#[derive(Drop)]
+// A point of a length penalty function.
+#[derive(Clone, Copy)]
 pub struct Point {
     pub function: u32,
     pub distance: u32,
@@ -13,7 +12,7 @@ pub struct Point {
 }
 
 // Which features forbid a pair: none; or those of one type that stand at one remainder, modulo 3, from the source or from the target.
-#[derive(Drop)]
+#[derive(Clone, Copy)]
 pub enum Interruption {
     None,
     FromSource { kind: u32, remainder: u32 },
@@ -21,7 +20,7 @@ pub enum Interruption {
 }
 
 // What a pair of a source type and a target type has to meet, and its length penalty function.
-#[derive(Drop)]
+#[derive(Clone, Copy)]
 pub struct Rule {
     pub source: u32,
     pub target: u32,
@@ -33,7 +32,7 @@ pub struct Rule {
 }
 
 // Which segments score the region of a pair, and how.
-#[derive(Drop)]
+#[derive(Clone, Copy)]
 pub struct Qualifier {
     pub source: u32,
     pub target: u32,
@@ -44,7 +43,7 @@ pub struct Qualifier {
 }
 
 // A scored site: a candidate for a chain.
-#[derive(Drop)]
+#[derive(Clone, Copy)]
 pub struct Feature {
     pub kind: u32,
     pub position: u32,
@@ -53,7 +52,7 @@ pub struct Feature {
 
 // A scored stretch of bases, both ends included. A host lends its own, laid out as in C.
 #[repr(C)]
-#[derive(Drop)]
+#[derive(Clone, Copy)]
 pub struct Segment {
     pub kind: u32,
     pub start: u32,
@@ -62,7 +61,7 @@ pub struct Segment {
 }
 
 // What is said of a list sent in as a chain: that it is none; the first step, from 1, that breaks the model; or its score.
-#[derive(Drop)]
+#[derive(Clone, Copy)]
 pub enum Verdict {
     NoChain,
     Breaks(usize),
