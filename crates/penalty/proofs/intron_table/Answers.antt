@@ -8,15 +8,11 @@ use lib.ListN.{length}
 use Rattle.gaze.specs.Penalty.{past, interpolated, intron_penalty}
 use Rattle.penalty.specs.Intron.{IntronTable}
 use Rattle.penalty.proofs.Expanded.{holds_from, expanded}
-use Rattle.penalty.proofs.intron_table.Statement.{statement}
-use Rattle.penalty.proofs.intron_table.Tie as tie
+use Rattle.penalty.proofs.intron_table.Goals as goal
 
 shipped : {table : List ℤ} → length table ≡ 1024 → T (holds_from intron_penalty 0 table) → IntronTable table
 shipped {table} e t = record { at = λ d h. expanded intron_penalty table t d (omega arith) }
 
-returns : tie.Need-returns
+pub returns : goal.returns
 unfolding past interpolated intron_penalty
 returns c = shipped refl tt
-
-pub intron_table_spec : {M : Type 1} → statement M
-intron_table_spec = tie.close (tie.spec returns)
