@@ -79,7 +79,7 @@ fn record_fault(passed: usize, before: Segment, segment: Segment) -> u64
 }
 
 // A refusal: its number, and the number of the record at fault, from 1. Both are 0 where nothing is wrong.
-#[derive(Drop)]
+#[derive(Clone, Copy)]
 pub struct Fault {
     pub number: u64,
     pub place: u64,
@@ -119,7 +119,7 @@ fn first_fault(rows: [Segment; 1024], n: usize) -> Fault
 
 // A region from a source to a target position, and the Q line that scores it.
 #[repr(C)]
-#[derive(Drop)]
+#[derive(Clone, Copy)]
 pub struct Region {
     pub source: u32,
     pub target: u32,
@@ -218,7 +218,7 @@ fn score(region: Region, rows: [Segment; 1024], n: usize) -> i64
 }
 
 // What is said of a region: a refusal, with the number of the record at fault or 0, or its score.
-#[derive(Drop)]
+#[derive(Clone, Copy)]
 pub enum Regional {
     Refused { number: u64, place: u64 },
     Scored(i64),
