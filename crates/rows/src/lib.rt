@@ -12,7 +12,7 @@ ghost use Rattle.rows.specs.Peaks.{held, peak, Edged, Flat};
 // ---- a maximum, taken number by number
 
 // Whether there was a number, and the largest, or 0.
-#[derive(Drop)]
+#[derive(Clone, Copy)]
 pub struct Largest {
     pub any: bool,
     pub value: i64,
@@ -56,9 +56,9 @@ fn larger(a: u32, b: u32) -> u32
 // The share of a segment that an edge of the region may cut.
 fn cut_share(a: u32, b: u32, start: u32, end: u32, score: i64) -> i64
     requires good { Good 10000000 start end score }
-    requires a_le_b_1 { a ≤ b }
-    requires a_le_b_2 { start ≤ b }
-    requires a_le_b_3 { a ≤ end }
+    requires ordered { a ≤ b }
+    requires begun { start ≤ b }
+    requires not_past { a ≤ end }
     ensures { result ≡ share a b (stretch start end score) }
 {
     let from = larger(a, start);
@@ -70,9 +70,9 @@ fn cut_share(a: u32, b: u32, start: u32, end: u32, score: i64) -> i64
 // The share of a segment that touches the region: divided only where an edge cuts it.
 fn touching_share(a: u32, b: u32, start: u32, end: u32, score: i64) -> i64
     requires good { Good 10000000 start end score }
-    requires a_le_b_1 { a ≤ b }
-    requires a_le_b_2 { start ≤ b }
-    requires a_le_b_3 { a ≤ end }
+    requires ordered { a ≤ b }
+    requires begun { start ≤ b }
+    requires not_past { a ≤ end }
     ensures { result ≡ share a b (stretch start end score) }
 {
     if start < a {
@@ -103,7 +103,7 @@ fn can_win(largest: Largest, score: i64) -> bool
 // One more segment.
 fn take_share(largest: Largest, a: u32, b: u32, start: u32, end: u32, score: i64) -> Largest
     requires good { Good 10000000 start end score }
-    requires a_le_b { a ≤ b }
+    requires ordered { a ≤ b }
     ensures { Looked (enters a b (stretch start end score)) largest.any largest.value (share a b (stretch start end score)) result.any result.value }
 {
     if b < start {
@@ -129,7 +129,7 @@ pub fn best_share<'a>(
     b: u32,
 ) -> i64
     requires sound { Sound 10000000 start.now end.now score.now lo hi }
-    requires a_le_b { a ≤ b }
+    requires ordered { a ≤ b }
     ensures { (kind : ℕ) → result ≡ largest_share a b (rows kind start.now end.now score.now lo hi) }
 {
     let mut largest = Largest {
@@ -161,8 +161,8 @@ fn take_rate(largest: Largest, x: u32, start: u32, end: u32, rate: i64) -> Large
 
 // The next base, up to `next`, from which the segment may give something else than at `x`.
 fn edge(x: u32, start: u32, end: u32, next: u32) -> u32
-    requires fact_1 { x < next }
-    requires fact_2 { end ≤ 4000000 }
+    requires ahead { x < next }
+    requires bounded { end ≤ 4000000 }
     ensures { Edged x next start end result }
 {
     if x < start {
@@ -175,7 +175,7 @@ fn edge(x: u32, start: u32, end: u32, next: u32) -> u32
 }
 
 // A peak, and the base up to which it stays the same.
-#[derive(Drop)]
+#[derive(Clone, Copy)]
 pub struct Plateau {
     pub value: i64,
     pub next: u32,
@@ -192,7 +192,7 @@ pub fn flat_from<'a>(
     to: u32,
 ) -> Plateau
     requires sound { Sound 10000000000 start.now end.now rate.now lo hi }
-    requires x_lt_to { x < to }
+    requires ahead { x < to }
     ensures { (kind : ℕ) → Flat (rows kind start.now end.now rate.now lo hi) x to result.value result.next }
 {
     let mut largest = Largest {
@@ -230,8 +230,8 @@ pub fn sum_peaks<'a>(
     to: u32,
 ) -> i64
     requires sound { Sound 10000000000 start.now end.now rate.now lo hi }
-    requires from_le_to_1 { from ≤ to }
-    requires from_le_to_2 { to ≤ 4000001 }
+    requires ordered { from ≤ to }
+    requires bounded { to ≤ 4000001 }
     ensures { (kind : ℕ) → result ≡ sum_over (peak (rows kind start.now end.now rate.now lo hi)) from (to - from) }
 {
     let mut walked = Sum { at: from, sum: 0 };
@@ -264,7 +264,7 @@ pub fn fill_rates<'a>(
     rate: &mut [i64],
 )
     requires sound { Sound 10000000 start.now end.now score.now lo hi }
-    requires hi_in_bounds { hi ≤ length rate.old }
+    requires room { hi ≤ length rate.old }
     ensures { Rated start.now end.now score.now lo hi rate.new }
 {
     let mut i = lo;
@@ -289,10 +289,10 @@ pub fn score_rows<'a>(
     t: u32,
 ) -> i64
     requires sound { Sound 10000000 start.now end.now score.now lo hi }
-    requires rated_1 { Rated start.now end.now score.now lo hi rate.now }
-    requires rated_2 { hi ≤ length rate.now }
-    requires s_le_t_1 { s ≤ t }
-    requires s_le_t_2 { t ≤ 4000000 }
+    requires rated { Rated start.now end.now score.now lo hi rate.now }
+    requires room { hi ≤ length rate.now }
+    requires ordered { s ≤ t }
+    requires bounded { t ≤ 4000000 }
     ensures { (kind : ℕ) → result ≡ scored method s t (rows kind start.now end.now score.now lo hi) }
 {
     if method == 1 {

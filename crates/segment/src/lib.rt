@@ -14,8 +14,8 @@ ghost use Rattle.segment.specs.Region.{Region};
 
 // Whether a segment that starts at `start` meets the phase for the target position `t`. The sum with 2 * start stands for the difference.
 pub fn meets_phase(phase: u32, t: u32, start: u32) -> bool
-    requires fact_1 { t ≤ 4000000 }
-    requires fact_2 { start ≤ 4000000 }
+    requires bounded { t ≤ 4000000 }
+    requires start_bounded { start ≤ 4000000 }
     ensures { result ≡ meets_phase phase t (stretch start 0 (pos 0)) }
 {
     if phase == 3 {
@@ -59,8 +59,8 @@ pub fn meets_match(matching: u32, s: u32, t: u32, start: u32, end: u32) -> bool
 
 // Whether a segment of type `of` that starts at `start` is of the type asked for, and meets the phase.
 fn fits_line(of: u32, kind: u32, phase: u32, t: u32, start: u32) -> bool
-    requires fact_1 { t ≤ 4000000 }
-    requires fact_2 { start ≤ 4000000 }
+    requires bounded { t ≤ 4000000 }
+    requires start_bounded { start ≤ 4000000 }
     ensures { result ≡ fits kind phase t (record { kind = of; start = start; end = 0; score = pos 0 }) }
 {
     if of == kind {
@@ -108,9 +108,9 @@ pub fn gather<'a>(
     scores: &mut [i64],
 ) -> usize
     requires sound { Sound 10000000 start.now end.now score.now 0 count }
-    requires count_in_bounds_1 { count ≤ length kind.now }
-    requires count_in_bounds_2 { t ≤ 4000000 }
-    requires count_in_bounds_3 { Room at count starts.old ends.old scores.old }
+    requires kinds_long { count ≤ length kind.now }
+    requires bounded { t ≤ 4000000 }
+    requires room { Room at count starts.old ends.old scores.old }
     ensures { Kept (fits of phase t) (segment_at kind.now start.now end.now score.now) of 0 count at result starts.old ends.old scores.old starts.new ends.new scores.new }
 {
     let mut o = at;
@@ -166,9 +166,9 @@ fn score_matching<'a>(
     t: u32,
 ) -> i64
     requires sound { Sound 10000000 start.now end.now score.now 0 count }
-    requires count_bound_1 { count ≤ 1024 }
-    requires count_bound_2 { s ≤ t }
-    requires count_bound_3 { t ≤ 4000000 }
+    requires few { count ≤ 1024 }
+    requires ordered { s ≤ t }
+    requires bounded { t ≤ 4000000 }
     ensures { (kind : ℕ) → result ≡ scored method s t (keep (meets_match matching s t) (rows kind start.now end.now score.now 0 count)) }
 {
     let mut starts = [0u32; 1024];
