@@ -53,7 +53,7 @@ pub data ScoresChain (bytes chain : List ℕ) (r : Reply) : Type 0 where
   scored : (sheet : Sheet) → reading bytes ≡ accepted sheet → Valid (steps sheet) (end_number sheet) chain
       → r ≡ done (total (steps sheet) chain) (length chain) → ScoresChain bytes chain r
 
--- Scoring one region over lent records: `region-answer` refuses the region, or walks the records in order and refuses the first at fault, or says the score. There is no count.
+-- Scoring one region over lent records: `region_answer` refuses the region, or walks the records in order and refuses the first at fault, or says the score. There is no count.
 abbrev pub region_reply : Regional → Reply
 region_reply (Refused number place) = refusal number place
 region_reply (Scored score) = done score 0

@@ -1,5 +1,5 @@
-// The score of one region over records that a host lends as a slice of structs. They are copied into an array of 1,024, since only code on arrays is
-// proved without a walk of its steps; what is wrong with them is found there, and their columns go to the scorer that serves a sheet.
+// The score of one region over records that a host lends as a slice of structs. They are copied into an array of 1,024; what is wrong with them is found
+// there, and their columns go to the scorer that serves a sheet.
 
 #![tactic(auto)]
 
