@@ -10,13 +10,13 @@ use native.Mathlib.Omega.{arith}
 use borrow.Author.Tests.{not-true, not-false}
 use lib.Dec.{T}
 use lib.IntN.{ℤ, pos, nat_abs, ◌+ℤ◌}
-use lib.Signed.{◌≤ℤ◌, ◌<ℤ◌, lt_z, lt_z_yes, lt_z_no}
+use lib.Signed.{◌≤ℤ◌, lt_z, lt_z_yes, lt_z_no}
 use mir.Syntax.{w64}
 use mir.Val.{SFits, to_z, of_z}
 use Rattle.whole.proofs.Size.{abs_sum}
 use Rattle.whole.proofs.Bits.{small_fits, small_back}
 use Rattle.gaze.specs.Chain.{Steps}
-use Rattle.gaze.proofs.Picked.{Picked, pick_none, pick_skip, pick_keep, pick_take}
+use Rattle.gaze.proofs.Picked.{pick_none, pick_skip, pick_keep, pick_take}
 use Rattle.chains.specs.Tables.{flags, totals, row_steps, Sources, Choosing}
 
 pub is_true : (b : Bool) → b ≡ true → T b

@@ -1,11 +1,11 @@
 -- The walk back over the sources, as the code makes it: counting, then writing from the last place.
-use mathlib.Core.Path.{◌≡◌, refl, sym, ap, ◌∙◌, subst}
+use mathlib.Core.Path.{◌≡◌, refl, sym, ap, ◌∙◌}
 use mathlib.Core.List.{List, [], ◌∷◌, ◌++◌, reverse, reverse_aux, append_assoc}
-use Prim.Native.Nat.{ℕ, zero, suc, ◌+◌, ◌-◌, ◌^◌, ◌≤◌, ◌<◌}
+use Prim.Native.Nat.{ℕ, zero, suc, ◌+◌, ◌-◌, ◌≤◌, ◌<◌}
 use native.Mathlib.Omega.{arith}
 use lib.ListN.{length, get_or, take, drop, set, length-set, take-append-drop}
 use lib.Seq.{take-suc, set_at, length-take-le}
-use Rattle.gaze.proofs.Table.{Traced, at_begin, came, trace_back}
+use Rattle.gaze.proofs.Table.{Traced, at_begin, came}
 use Rattle.chains.specs.Tables.{numbers, way_back, Tracing}
 
 pub traced_length : {from : ℕ → ℕ} {e : ℕ} {l : List ℕ} → Traced from e l → length l ≤ suc e

@@ -27,9 +27,9 @@ fn consider<'a>(
     s: usize,
     c: Choice,
 ) -> Choice
-    requires sources_1 { Sources e legal.now gains.now reach.now value.now }
-    requires sources_2 { s < e }
-    requires choosing { Choosing (row_steps legal.now gains.now) e s reach.now value.now c.found c.value c.from }
+    requires sources { Sources e legal.now gains.now reach.now value.now }
+    requires earlier { s < e }
+    requires chosen { Choosing (row_steps legal.now gains.now) e s reach.now value.now c.found c.value c.from }
     ensures { Choosing (row_steps legal.now gains.now) e (s + 1) reach.now value.now result.found result.value result.from }
 {
     if !legal[s] {
@@ -95,9 +95,9 @@ pub fn settle<'a>(
     value: &mut [i64],
     from: &mut [u32],
 )
-    requires fact_1 { Sources e legal.now gains.now reach.old value.old }
-    requires fact_2 { Room e reach.old value.old from.old }
-    requires fact_3 { 0 < e }
+    requires sources { Sources e legal.now gains.now reach.old value.old }
+    requires room { Room e reach.old value.old from.old }
+    requires after_begin { 0 < e }
     ensures same_lengths { SameLengths reach.old reach.new value.old value.new from.old from.new }
     ensures searched { (m : Steps) → Row m e legal.now gains.now → Searched m e reach.old value.old from.old → Searched m (e + 1) reach.new value.new from.new }
 {
@@ -127,8 +127,8 @@ fn count_back(e: usize, from: &[u32], room: usize) -> usize
 // Writes the chain that ends at `e` into the front of `chain`, and returns its length.
 pub fn trace(e: usize, from: &[u32], chain: &mut [u32]) -> usize
     requires { Tracing e from.now (length chain.old) }
-    ensures value { result ≡ length (way_back from.now e) }
-    ensures chain_after { chain.new ≡ reverse (way_back from.now e) ++ drop result chain.old }
+    ensures counted { result ≡ length (way_back from.now e) }
+    ensures written { chain.new ≡ reverse (way_back from.now e) ++ drop result chain.old }
 {
     let n = count_back(e, from, chain.len());
     let mut p = n;
@@ -157,8 +157,8 @@ pub fn answer<'a>(
     n: usize,
     chain: &mut [u32],
 ) -> Found
-    requires fact_1 { Finished n reach.now value.now from.now }
-    requires fact_2 { n ≤ length chain.old }
+    requires finished { Finished n reach.now value.now from.now }
+    requires room { n ≤ length chain.old }
     ensures { (m : Steps) → Searched m n reach.now value.now from.now → Answers m (n - 1) chain.old result chain.new }
 {
     let e = n - 1;

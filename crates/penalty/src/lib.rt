@@ -59,10 +59,10 @@ fn line_at<'a>(distance: &'a [u32], penalty: &'a [i64], i: usize, d: u32) -> i64
 
 // Beyond the last of rows `lo` to `hi`. The end is flat, so the code does not look at the distance, but the definition that it meets does.
 fn last_at<'a>(distance: &'a [u32], penalty: &'a [i64], lo: usize, hi: usize, d: u32) -> i64
-    requires fact_1 { Curve distance.now penalty.now lo hi }
-    requires fact_2 { lo < hi }
-    requires fact_3 { First distance.now lo hi d hi }
-    requires fact_4 { d ≤ 4000000 }
+    requires curve { Curve distance.now penalty.now lo hi }
+    requires present { lo < hi }
+    requires beyond { First distance.now lo hi d hi }
+    requires bounded { d ≤ 4000000 }
     ensures { (f : ℕ) → result ≡ interpolated (rows f distance.now penalty.now lo hi) d }
 {
     penalty[hi - 1]
@@ -70,8 +70,8 @@ fn last_at<'a>(distance: &'a [u32], penalty: &'a [i64], lo: usize, hi: usize, d:
 
 // The penalty that rows `lo` to `hi` give.
 fn curve_at<'a>(distance: &'a [u32], penalty: &'a [i64], lo: usize, hi: usize, d: u32) -> i64
-    requires fact_1 { Curve distance.now penalty.now lo hi }
-    requires fact_2 { d ≤ 4000000 }
+    requires curve { Curve distance.now penalty.now lo hi }
+    requires bounded { d ≤ 4000000 }
     ensures { (f : ℕ) → result ≡ interpolated (rows f distance.now penalty.now lo hi) d }
 {
     if lo == hi {
@@ -96,10 +96,10 @@ pub fn penalty_at<'a>(
     function: u32,
     d: u32,
 ) -> i64
-    requires fact_1 { Curves distance.now penalty.now first.now }
-    requires fact_2 { IntronTable intron.now }
-    requires fact_3 { function ≤ 17 }
-    requires fact_4 { d ≤ 4000000 }
+    requires curves { Curves distance.now penalty.now first.now }
+    requires table { IntronTable intron.now }
+    requires known { function ≤ 17 }
+    requires bounded { d ≤ 4000000 }
     ensures { result ≡ row_penalty distance.now penalty.now first.now function d }
 {
     if function == 0 {

@@ -1,8 +1,8 @@
 -- From the tables to the definition: a look-up is `legal` of the sheet that the columns hold.
-use mathlib.Core.Path.{◌≡◌, refl, sym, ap, ap₂, ◌∙◌, subst}
+use mathlib.Core.Path.{◌≡◌, refl, sym, ap, ◌∙◌, subst}
 use mathlib.Core.Logic.{⊎_elim}
 use mathlib.Core.Bool.{Bool, false, not, ◌&&◌}
-use mathlib.Core.Option.{Option, none, some}
+use mathlib.Core.Option.{Option, some}
 use mathlib.Core.List.{List}
 use Prim.Native.Nat.{ℕ, zero, suc, ◌+◌, ◌-◌, ◌*◌, ◌≤◌, ◌<◌}
 use native.Mathlib.Nat.{zero-add, eq-or-lt_of_le}
@@ -13,8 +13,8 @@ use Rattle.gaze.specs.declared.Rule.{Rule}
 use Rattle.gaze.specs.declared.Feature.{Feature}
 use Rattle.gaze.specs.Lists.{first_of, listed}
 use Rattle.gaze.specs.Sheet.{Sheet, candidate, end_number}
-use Rattle.gaze.specs.Step.{distance, rule_of, meets_distance, meets_phase, interrupted, meets, by_rule, legal}
-use Rattle.gaze.specs.Ranges.{InterruptionRanges, RuleRanges, InRange}
+use Rattle.gaze.specs.Step.{distance, rule_of, meets_distance, meets_phase, meets, by_rule, legal}
+use Rattle.gaze.specs.Ranges.{InterruptionRanges, RuleRanges}
 use Rattle.gaze.specs.Columns.{rule_at}
 use Rattle.gaze.proofs.ListLaws.{each_at, listed_at}
 use Rattle.gaze.proofs.Candidates.{placed, never_falls}

@@ -83,9 +83,9 @@ fn last_interrupters<'a>(kind: &'a [u32], position: &'a [u32], t: usize) -> [u32
 }
 
 fn interrupted(i: Interruption, s: u32, t: u32, last: &[u32; 96]) -> bool
-    requires fact_1 { InterruptionRanges i }
-    requires fact_2 { s ≤ 4000000 }
-    requires fact_3 { t ≤ 4000000 }
+    requires ranged { InterruptionRanges i }
+    requires source_within { s ≤ 4000000 }
+    requires target_within { t ≤ 4000000 }
     ensures { result ≡ seen i s t last.now }
 {
     match i {
@@ -101,9 +101,9 @@ fn interrupted(i: Interruption, s: u32, t: u32, last: &[u32; 96]) -> bool
 
 // Whether a source at `s` and a target at `t` meet all of the rule.
 fn meets(rule: Rule, s: u32, t: u32, last: &[u32; 96]) -> bool
-    requires fact_1 { InterruptionRanges rule.interruption }
-    requires fact_2 { s ≤ t }
-    requires fact_3 { t ≤ 4000000 }
+    requires ranged { InterruptionRanges rule.interruption }
+    requires ordered { s ≤ t }
+    requires within { t ≤ 4000000 }
     ensures { result ≡ met rule s t last.now }
 {
     let d = t - s;
@@ -149,11 +149,11 @@ pub fn legal_row<'a>(
     legal: &mut [bool],
 )
     requires target { Target kind.now position.now rules.now table.now t }
-    requires lo_le_hi_1 { lo ≤ hi }
-    requires lo_le_hi_2 { hi ≤ t }
-    requires lo_le_hi_3 { hi ≤ length legal.old }
-    ensures legal_len_unchanged { length legal.new ≡ length legal.old }
-    ensures legal_row { (sheet : Sheet) → Legality sheet kind.now position.now rules.now table.now → t ≤ end_number sheet → LegalRow sheet t lo hi legal.new }
+    requires ordered { lo ≤ hi }
+    requires before_target { hi ≤ t }
+    requires room { hi ≤ length legal.old }
+    ensures same_length { length legal.new ≡ length legal.old }
+    ensures legality { (sheet : Sheet) → Legality sheet kind.now position.now rules.now table.now → t ≤ end_number sheet → LegalRow sheet t lo hi legal.new }
 {
     let last = last_interrupters(kind, position, t);
     let target = kind[t];
