@@ -19,6 +19,11 @@ use Rattle.gaze.specs.Chain.{Steps}
 use Rattle.gaze.proofs.Picked.{pick_none, pick_skip, pick_keep, pick_take}
 use Rattle.chains.specs.Tables.{flags, totals, row_steps, Sources, Choosing}
 
+-- two read-back numbers that are small have a sum that fits
+pub sum_fits : (a b : ℤ) → nat_abs a ≤ 2 ^ 61 → nat_abs b ≤ 2 ^ 61 → SFits w64 (to_z w64 (of_z w64 a) +ℤ to_z w64 (of_z w64 b))
+sum_fits a b x y =
+    rw (small_back a (2 ^ 61) x (omega arith), small_back b (2 ^ 61) y (omega arith)) (small_fits (a +ℤ b) (2 ^ 62) (omega (arith, abs_sum a b)) (omega arith))
+
 pub is_true : (b : Bool) → b ≡ true → T b
 is_true b h = subst T (sym h) tt
 
@@ -62,10 +67,6 @@ module _ {e s : ℕ} {legals : List Bool} {gains : List ℤ} {reach : List Bool}
 
     gain_back : to_z w64 (of_z w64 (totals gains s)) ≡ totals gains s
     gain_back = small_back (totals gains s) (2 ^ 50) (q.gain_size s s_in legal_here) (omega arith)
-
-    pub offer_fits : SFits w64 (to_z w64 (of_z w64 (totals value s)) +ℤ to_z w64 (of_z w64 (totals gains s)))
-    unfolding offer
-    offer_fits = rw (value_back, gain_back) (small_fits offer (suc s * 2 ^ 50) offer_size (let h = q.few in omega arith))
 
     module _ {x : ℤ} (is : x ≡ to_z w64 (of_z w64 (totals value s)) +ℤ to_z w64 (of_z w64 (totals gains s))) where
       x_is : x ≡ offer

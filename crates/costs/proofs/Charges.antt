@@ -1,8 +1,8 @@
 -- From the tables to the definition: what the code charges a legal step with is its gain.
 use mathlib.Core.Path.{◌≡◌, refl, sym, ap, ap₂, ◌∙◌, subst}
 use mathlib.Core.Logic.{⊎_elim}
-use mathlib.Core.Bool.{Bool, true, false, cond, true≢false}
-use mathlib.Core.Option.{Option, none, some}
+use mathlib.Core.Bool.{Bool, true, false, true≢false}
+use mathlib.Core.Option.{Option}
 use mathlib.Core.List.{List}
 use Prim.Native.Nat.{ℕ, zero, suc, ◌+◌, ◌-◌, ◌*◌, ◌≤◌, ◌<◌}
 use native.Mathlib.Nat.{eq-or-lt_of_le}
@@ -15,15 +15,12 @@ use mir.Syntax.{w64}
 use mir.Val.{to_z, of_z}
 use Rattle.whole.proofs.Bits.{small_back}
 use Rattle.gaze.specs.declared.Rule.{Rule}
-use Rattle.gaze.specs.declared.Feature.{Feature}
 use Rattle.gaze.specs.Sheet.{Sheet, candidate, end_number}
-use Rattle.gaze.specs.Penalty.{penalty}
 use Rattle.gaze.specs.Step.{distance, region_score, meets, gained, by_rule, legal, gain}
-use Rattle.gaze.specs.Columns.{rule_at}
-use Rattle.gaze.proofs.Candidates.{placed, never_falls}
+use Rattle.gaze.proofs.Candidates.{placed}
 use Rattle.gaze.proofs.Bounds.{penalty_size, region_size}
 use Rattle.penalty.specs.Rows.{row_penalty}
-use Rattle.rules.specs.Tables.{numbered, LegalRow}
+use Rattle.rules.specs.Tables.{numbered}
 use Rattle.rules.proofs.Steps.{rule_ranges, rule_is}
 use Rattle.costs.specs.Rows.{charged, Charge, Costs, GainRow}
 

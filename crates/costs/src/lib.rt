@@ -78,12 +78,12 @@ pub fn charge_row<'a>(
     gains: &mut [i64],
 )
     requires scored { Scored kind.now position.now score.now rules.now table.now distance.now penalty.now first.now intron.now t lo hi legal.now gains.old }
-    requires lo_le_hi_1 { lo ≤ hi }
-    requires lo_le_hi_2 { hi ≤ t }
-    requires lo_le_hi_3 { hi ≤ length legal.now }
-    requires lo_le_hi_4 { hi ≤ length gains.old }
-    ensures gains_len_unchanged { length gains.new ≡ length gains.old }
-    ensures gain_row { (sheet : Sheet) → Costs sheet kind.now position.now score.now rules.now table.now distance.now penalty.now first.now intron.now → t ≤ end_number sheet → LegalRow sheet t lo hi legal.now → RegionRow sheet t lo hi legal.now gains.old → GainRow sheet t lo hi legal.now gains.new }
+    requires ordered { lo ≤ hi }
+    requires before_target { hi ≤ t }
+    requires legal_room { hi ≤ length legal.now }
+    requires gains_room { hi ≤ length gains.old }
+    ensures same_length { length gains.new ≡ length gains.old }
+    ensures gained { (sheet : Sheet) → Costs sheet kind.now position.now score.now rules.now table.now distance.now penalty.now first.now intron.now → t ≤ end_number sheet → LegalRow sheet t lo hi legal.now → RegionRow sheet t lo hi legal.now gains.old → GainRow sheet t lo hi legal.now gains.new }
 {
     let target = kind[t];
     let p = position[t];

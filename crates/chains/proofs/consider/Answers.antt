@@ -1,8 +1,13 @@
 -- `consider` is right because its five ways out are the three ways in which a choice goes on: the source is passed over, it gives less, or it
 -- takes the place.
 use mathlib.Core.Bool.{not}
+use native.Mathlib.Omega.{arith}
 use mathlib.Core.Path.{ap}
-use Rattle.chains.proofs.Choices.{skip_illegal, skip_unreached, offer_fits, kept, taken, no_less, not_yes}
+use Rattle.chains.proofs.Choices.{is_true, sum_fits, skip_illegal, skip_unreached, kept, taken, no_less, not_yes}
+use Prim.Native.Nat.{◌≤◌, ◌^◌}
+use lib.IntN.{nat_abs}
+use borrow.Author.Rules.{rules}
+use Rattle.chains.specs.Tables.{totals}
 use Rattle.chains.proofs.consider.Goals as goal
 
 pub returns-then-not-legal-s : goal.returns-then-not-legal-s
@@ -15,10 +20,14 @@ returns-then-not-reach-s c =
     let p = c.requires in
     skip_unreached p.sources p.earlier p.chosen (ap not c.if-not-reach-s.true)
 
+-- both are at most as many times 2^50 as there are steps
 pub plus-v-requires : goal.plus-v-requires
 plus-v-requires c =
-    let p = c.requires in
-    offer_fits p.sources p.earlier p.chosen (ap not c.if-not-legal-s.false)
+    let q = c.requires.sources in
+    let y = is_true _ c.if-not-legal-s.false in
+    let v : nat_abs (totals c.args.value.now c.args.s) ≤ 2 ^ 61 = omega (arith, q.value_size c.args.s c.requires.earlier, q.few) in
+    let g : nat_abs (totals c.args.gains.now c.args.s) ≤ 2 ^ 61 = omega (arith, q.gain_size c.args.s c.requires.earlier y) in
+    search (rules, sum_fits)
 
 pub returns-then-v-c : goal.returns-then-v-c
 returns-then-v-c c =

@@ -1,5 +1,5 @@
 use native.Mathlib.Omega.{arith}
-use Rattle.chains.proofs.Traces.{writing_start, writing_some, writing_in, writing_less, writing_more, writing_end}
+use Rattle.chains.proofs.Traces.{traced_length, writing_start, writing_some, writing_in, writing_less, writing_more, writing_end}
 use Rattle.chains.proofs.trace.Goals as goal
 
 pub count_back-n-requires : goal.count_back-n-requires
@@ -12,7 +12,7 @@ pub overflow_sub-p : goal.overflow_sub-p
 overflow_sub-p c = writing_some _ _ _ c.requires _ c.count_back-n.ensures _ _ _ c.loop-j.invariant
 
 pub overflow_cast-chain : goal.overflow_cast-chain
-overflow_cast-chain c = omega (arith, c.loop-j.invariant.j_in, c.requires.small)
+overflow_cast-chain c = omega (arith, c.loop-j.invariant.j_in, c.loop-j.invariant.p_is, traced_length c.loop-j.invariant.here, c.requires.small)
 
 pub offset_bounds-chain-p : goal.offset_bounds-chain-p
 offset_bounds-chain-p c = omega (arith, writing_in _ _ _ c.requires _ c.count_back-n.ensures _ _ _ c.loop-j.invariant, c.loop-j.invariant.same)
