@@ -6,9 +6,11 @@ ghost use Rattle.std.specs.Prelude.{◌≡◌, ◌≤◌};
 ghost use Rattle.gaze.specs.SegmentScore.{segment_score};
 ghost use Rattle.segment_cases.specs.Cases.{cases};
 
+use std::io;
+
 fn score_of(q: gaze::Qualifier, s: u32, t: u32) -> i64
-    requires fact_1 { s ≤ t }
-    requires fact_2 { t ≤ 4000000 }
+    requires ordered { s ≤ t }
+    requires bounded { t ≤ 4000000 }
     ensures { result ≡ segment_score q s t cases }
 {
     let kind = [3u32, 2, 0, 1, 6, 6, 1, 5, 5, 5, 4];
@@ -30,14 +32,22 @@ fn score_of(q: gaze::Qualifier, s: u32, t: u32) -> i64
     segment::region_score(&kind, &start, &end, &score, 11, q, s, t)
 }
 
-fn print_number(z: i64) {
+fn print_number(rt: &impl Print, z: i64) -> io::Result<()> {
     let mut line = [0u8; 21];
     let end = printing::push_signed(&mut line, 0, z);
     let size = printing::push(&mut line, end, b"\n");
-    io::write_all(1, &line[..size]);
+    rt.write_all(&line[..size])
 }
 
-fn print_case(kind: u32, method: u32, phase: u32, matching: u32, s: u32, t: u32)
+fn print_case(
+    rt: &impl Print,
+    kind: u32,
+    method: u32,
+    phase: u32,
+    matching: u32,
+    s: u32,
+    t: u32,
+) -> io::Result<()>
     requires { (s ≤ t) × (t ≤ 4000000) }
 {
     let q = gaze::Qualifier {
@@ -48,55 +58,61 @@ fn print_case(kind: u32, method: u32, phase: u32, matching: u32, s: u32, t: u32)
         phase,
         matching,
     };
-    print_number(score_of(q, s, t));
+    print_number(rt, score_of(q, s, t))
 }
 
 // One segment, cut by the region; then with a second, far away.
-fn shares() {
-    print_case(0, 1, 3, 0, 10, 12);
-    print_case(1, 1, 3, 0, 10, 12);
+fn shares(rt: &impl Print) -> io::Result<()> {
+    print_case(rt, 0, 1, 3, 0, 10, 12)?;
+    print_case(rt, 1, 1, 3, 0, 10, 12)?;
+    Ok(())
 }
 
 // Both quotients are rounded down; then one base of three.
-fn rates() {
-    print_case(2, 2, 3, 0, 10, 12);
-    print_case(2, 1, 3, 0, 11, 11);
-    print_case(2, 2, 3, 0, 11, 11);
+fn rates(rt: &impl Print) -> io::Result<()> {
+    print_case(rt, 2, 2, 3, 0, 10, 12)?;
+    print_case(rt, 2, 1, 3, 0, 11, 11)?;
+    print_case(rt, 2, 2, 3, 0, 11, 11)?;
+    Ok(())
 }
 
 // Segments of one base with the largest and the smallest score, at the ends of the longest sequence.
-fn ends() {
-    print_case(3, 1, 3, 0, 1, 1);
-    print_case(3, 2, 3, 0, 1, 4000000);
-    print_case(4, 1, 3, 0, 4000000, 4000000);
-    print_case(4, 2, 3, 0, 1, 4000000);
-    print_case(4, 2, 3, 0, 1, 3999999);
+fn ends(rt: &impl Print) -> io::Result<()> {
+    print_case(rt, 3, 1, 3, 0, 1, 1)?;
+    print_case(rt, 3, 2, 3, 0, 1, 4000000)?;
+    print_case(rt, 4, 1, 3, 0, 4000000, 4000000)?;
+    print_case(rt, 4, 2, 3, 0, 1, 4000000)?;
+    print_case(rt, 4, 2, 3, 0, 1, 3999999)?;
+    Ok(())
 }
 
-fn matches() {
-    print_case(5, 1, 3, 0, 100, 120);
-    print_case(5, 1, 3, 1, 100, 120);
-    print_case(5, 1, 3, 2, 100, 120);
-    print_case(5, 1, 3, 3, 100, 120);
-    print_case(5, 2, 3, 0, 100, 120);
-    print_case(5, 2, 3, 1, 100, 120);
-    print_case(5, 2, 3, 2, 100, 120);
-    print_case(5, 2, 3, 3, 100, 120);
-    print_case(5, 1, 3, 1, 101, 120);
+fn matches(rt: &impl Print) -> io::Result<()> {
+    print_case(rt, 5, 1, 3, 0, 100, 120)?;
+    print_case(rt, 5, 1, 3, 1, 100, 120)?;
+    print_case(rt, 5, 1, 3, 2, 100, 120)?;
+    print_case(rt, 5, 1, 3, 3, 100, 120)?;
+    print_case(rt, 5, 2, 3, 0, 100, 120)?;
+    print_case(rt, 5, 2, 3, 1, 100, 120)?;
+    print_case(rt, 5, 2, 3, 2, 100, 120)?;
+    print_case(rt, 5, 2, 3, 3, 100, 120)?;
+    print_case(rt, 5, 1, 3, 1, 101, 120)?;
+    Ok(())
 }
 
 // The segment that starts behind the target differs from it by -1, which is reduced to 2, and lifts the score to 0.
-fn phases() {
-    print_case(6, 1, 2, 0, 10, 12);
-    print_case(6, 1, 1, 0, 10, 12);
-    print_case(6, 1, 0, 0, 10, 13);
-    print_case(6, 1, 3, 0, 14, 15);
+fn phases(rt: &impl Print) -> io::Result<()> {
+    print_case(rt, 6, 1, 2, 0, 10, 12)?;
+    print_case(rt, 6, 1, 1, 0, 10, 12)?;
+    print_case(rt, 6, 1, 0, 0, 10, 13)?;
+    print_case(rt, 6, 1, 3, 0, 14, 15)?;
+    Ok(())
 }
 
-fn main() {
-    shares();
-    rates();
-    ends();
-    matches();
-    phases();
+fn main(rt: HostRuntime) -> io::Result<()> {
+    shares(&rt)?;
+    rates(&rt)?;
+    ends(&rt)?;
+    matches(&rt)?;
+    phases(&rt)?;
+    Ok(())
 }
