@@ -1,23 +1,23 @@
 -- From the columns to the definition: what a line is worth is its segment score, and what a pair's lines are worth together its region score.
-use mathlib.Core.Path.{◌≡◌, refl, sym, ap, ◌∙◌, subst}
+use mathlib.Core.Path.{◌≡◌, sym, ap, ◌∙◌, subst}
 use mathlib.Core.Logic.{◌⊎◌, inl, inr, ⊎_elim}
-use mathlib.Core.Bool.{Bool, true, false, cond}
-use mathlib.Core.List.{List, [], ◌∷◌, map}
+use mathlib.Core.Bool.{Bool, false, cond}
+use mathlib.Core.List.{List, map}
 use Prim.Native.Nat.{ℕ, ◌+◌, ◌-◌, ◌*◌, ◌≤◌, ◌<◌}
-use native.Mathlib.Nat.{eq-or-lt_of_le, zero-add}
+use native.Mathlib.Nat.{eq-or-lt_of_le}
 use native.Mathlib.Omega.{arith}
 use lib.Dec.{eqb, ltb, T}
-use lib.IntN.{ℤ, pos, nat_abs}
-use lib.ListN.{length, get_or, set, length-set}
+use lib.IntN.{ℤ, pos}
+use lib.ListN.{length, get_or, set}
 use lib.Seq.{get_or-set_same, get_or-set_other}
 use Rattle.whole.specs.Whole.{sum_of}
 use Rattle.gaze.specs.declared.Qualifier.{Qualifier}
 use Rattle.gaze.specs.declared.Segment.{Segment}
-use Rattle.gaze.specs.Lists.{Each, keep, listed}
-use Rattle.gaze.specs.Sheet.{Sheet, candidate, end_number}
+use Rattle.gaze.specs.Lists.{Each, listed}
+use Rattle.gaze.specs.Sheet.{Sheet, candidate}
 use Rattle.gaze.specs.SegmentScore.{segment_score}
-use Rattle.gaze.specs.Step.{of_pair, region_score}
-use Rattle.gaze.specs.Ranges.{QualifierRanges, SegmentRanges, InRange}
+use Rattle.gaze.specs.Step.{region_score}
+use Rattle.gaze.specs.Ranges.{QualifierRanges}
 use Rattle.gaze.specs.Columns.{qualifier_at}
 use Rattle.gaze.proofs.ListLaws.{listed_each, listed_same, map_listed}
 use Rattle.gaze.proofs.Candidates.{placed, never_falls}
@@ -26,7 +26,6 @@ use Rattle.rows.specs.Rows.{scored}
 use Rattle.slots.specs.Slots.{slot_of, slot_rows}
 use Rattle.slots.proofs.Lines.{score_any, score_from_source, score_to_target, score_both}
 use Rattle.sums.proofs.Pairs.{pair_is}
-use Rattle.lines.specs.Lines.{of_types, LinesAt}
 use Rattle.lines.specs.Regions.{RegionRow}
 use Rattle.regions.specs.Evidence.{Between, starting, worth, together, Pair, Marked, Evidence}
 

@@ -1,6 +1,6 @@
 -- What some Q lines are worth together, one more.
 use mathlib.Core.Path.{◌≡◌, refl, ap, ◌∙◌}
-use mathlib.Core.List.{List, [], ◌∷◌, ◌++◌, map, map-append}
+use mathlib.Core.List.{List, [], ◌∷◌, map, map-append}
 use Prim.Native.Nat.{ℕ, ◌+◌, ◌-◌, ◌*◌, ◌≤◌}
 use native.Mathlib.Omega.{arith}
 use lib.IntN.{ℤ, pos, nat_abs, ◌+ℤ◌}

@@ -25,10 +25,10 @@ fn slot_score<'a>(
     s: u32,
     t: u32,
 ) -> i64
-    requires fact_1 { Table at.now start.now end.now score.now rate.now }
-    requires fact_2 { slot < 64 }
-    requires fact_3 { s ≤ t }
-    requires fact_4 { t ≤ 4000000 }
+    requires table { Table at.now start.now end.now score.now rate.now }
+    requires slot_low { slot < 64 }
+    requires ordered { s ≤ t }
+    requires bounded { t ≤ 4000000 }
     ensures { result ≡ scored method s t (starting source s (slot_rows slot at.now start.now end.now score.now)) }
 {
     let lo = at[slot];
@@ -56,11 +56,11 @@ fn free_score<'a>(
     s: u32,
     t: u32,
 ) -> i64
-    requires table_1 { Table at.now start.now end.now score.now rate.now }
-    requires table_2 { Between summed.now at.now start.now end.now score.now sums.now i j s t }
-    requires slot_bound_1 { slot < 64 }
-    requires slot_bound_2 { s ≤ t }
-    requires slot_bound_3 { t ≤ 4000000 }
+    requires table { Table at.now start.now end.now score.now rate.now }
+    requires between { Between summed.now at.now start.now end.now score.now sums.now i j s t }
+    requires slot_low { slot < 64 }
+    requires ordered { s ≤ t }
+    requires bounded { t ≤ 4000000 }
     ensures { result ≡ scored method s t (slot_rows slot at.now start.now end.now score.now) }
 {
     let lo = at[slot];
@@ -94,10 +94,10 @@ fn line_score<'a>(
     s: u32,
     t: u32,
 ) -> i64
-    requires table_1 { Table at.now start.now end.now score.now rate.now }
-    requires table_2 { Table bounds.now starts.now ends.now scores.now rates.now }
-    requires between_1 { Between summed.now at.now start.now end.now score.now sums.now i j s t }
-    requires between_2 { Asked q s t }
+    requires table { Table at.now start.now end.now score.now rate.now }
+    requires narrowed { Table bounds.now starts.now ends.now scores.now rates.now }
+    requires between { Between summed.now at.now start.now end.now score.now sums.now i j s t }
+    requires asked { Asked q s t }
     ensures { result ≡ scored q.method s t (found q at.now start.now end.now score.now bounds.now starts.now ends.now scores.now s t) }
 {
     let slot = slots::slot_of(q.kind, q.phase, t);
@@ -147,8 +147,8 @@ fn region_sum<'a>(
     s: u32,
     t: u32,
 ) -> i64
-    requires table_1 { Table at.now start.now end.now score.now rate.now }
-    requires table_2 { Table bounds.now starts.now ends.now scores.now rates.now }
+    requires table { Table at.now start.now end.now score.now rate.now }
+    requires narrowed { Table bounds.now starts.now ends.now scores.now rates.now }
     requires between { Between summed.now at.now start.now end.now score.now sums.now i j s t }
     requires summable { Summable (worth at.now start.now end.now score.now bounds.now starts.now ends.now scores.now s t) lines.now lo hi s t }
     ensures { result ≡ together (worth at.now start.now end.now score.now bounds.now starts.now ends.now scores.now s t) lines.now lo hi }
@@ -246,12 +246,12 @@ pub fn region_row<'a>(
     regions: &mut [i64],
 )
     requires held { Held kind.now position.now lines.now first.now at.now start.now end.now score.now rate.now summed.now sums.now bounds.now starts.now ends.now scores.now rates.now t }
-    requires lo_le_hi_1 { lo ≤ hi }
-    requires lo_le_hi_2 { hi ≤ t }
-    requires lo_le_hi_3 { hi ≤ length legal.now }
-    requires lo_le_hi_4 { hi ≤ length regions.old }
-    ensures regions_len_unchanged { length regions.new ≡ length regions.old }
-    ensures region_row { (sheet : Sheet) → Evidence sheet kind.now position.now lines.now first.now at.now start.now end.now score.now rate.now summed.now sums.now bounds.now starts.now ends.now scores.now rates.now t → RegionRow sheet t lo hi legal.now regions.new }
+    requires ordered { lo ≤ hi }
+    requires within { hi ≤ t }
+    requires legal_long { hi ≤ length legal.now }
+    requires room { hi ≤ length regions.old }
+    ensures same_length { length regions.new ≡ length regions.old }
+    ensures filled { (sheet : Sheet) → Evidence sheet kind.now position.now lines.now first.now at.now start.now end.now score.now rate.now summed.now sums.now bounds.now starts.now ends.now scores.now rates.now t → RegionRow sheet t lo hi legal.now regions.new }
 {
     let target = kind[t];
     let p = position[t];

@@ -1,12 +1,10 @@
 -- Rows that start behind a region enter its maximum with 0, so that they need not be looked at one by one.
 use mathlib.Core.Path.{◌≡◌, refl, sym, ap, ◌∙◌}
-use mathlib.Core.Bool.{Bool, true, false, cond}
 use mathlib.Core.List.{List, [], ◌∷◌, ◌++◌, map, map-append, foldl, foldl-append}
 use Prim.Native.Nat.{ℕ, suc, ◌+◌, ◌-◌, ◌<◌}
 use native.Mathlib.Omega.{arith}
 use lib.IntN.{ℤ, pos}
 use lib.ListN.{length}
-use lib.Signed.{le_z}
 use Rattle.whole.specs.Whole.{larger_of}
 use Rattle.whole.proofs.Comparisons.{larger_again}
 use Rattle.gaze.specs.declared.Segment.{Segment}

@@ -16,9 +16,9 @@ ghost use Rattle.slots.specs.Search.{Rising, Starting};
 
 // The slot that a Q line of this type and phase asks for at the target position `t`.
 pub fn slot_of(kind: u32, phase: u32, t: u32) -> usize
-    requires fact_1 { kind ≤ 15 }
-    requires fact_2 { phase ≤ 3 }
-    requires fact_3 { t ≤ 4000000 }
+    requires kind_small { kind ≤ 15 }
+    requires phase_small { phase ≤ 3 }
+    requires bounded { t ≤ 4000000 }
     ensures { result ≡ slot_of kind phase t }
 {
     if phase == 3 {
@@ -35,9 +35,9 @@ fn class_phase(class: u32) -> u32
 
 // Marks the slots that a Q line of this type and phase can ask for.
 pub fn mark(kind: u32, phase: u32, used: &mut [bool])
-    requires fact_1 { kind ≤ 15 }
-    requires fact_2 { phase ≤ 3 }
-    requires fact_3 { 64 ≤ length used.old }
+    requires kind_small { kind ≤ 15 }
+    requires phase_small { phase ≤ 3 }
+    requires room { 64 ≤ length used.old }
     ensures { Marked kind phase used.old used.new }
 {
     let first = (4 * kind) as usize;
@@ -65,10 +65,10 @@ pub fn group<'a>(
     scores: &mut [i64],
 ) -> usize
     requires sound { Sound 10000000 start.now end.now score.now 0 count }
-    requires count_in_bounds_1 { count ≤ length kind.now }
-    requires count_in_bounds_2 { count ≤ 1024 }
-    requires count_in_bounds_3 { 64 < length at.old }
-    requires count_in_bounds_4 { Room 0 3072 starts.old ends.old scores.old }
+    requires kinds_long { count ≤ length kind.now }
+    requires few { count ≤ 1024 }
+    requires at_room { 64 < length at.old }
+    requires room { Room 0 3072 starts.old ends.old scores.old }
     ensures { Slots (listed (segment_at kind.now start.now end.now score.now) 0 count) at.new starts.new ends.new scores.new result }
 {
     at[0] = 0;
@@ -107,8 +107,8 @@ pub struct Span {
 }
 
 pub fn starting_at(start: &[u32], lo: usize, hi: usize, s: u32) -> Span
-    requires fact_1 { Rising start.now lo hi }
-    requires fact_2 { s ≤ 4000000 }
+    requires rising { Rising start.now lo hi }
+    requires bounded { s ≤ 4000000 }
     ensures { Starting start.now lo hi s result.lo result.hi }
 {
     let first = sorted::first_from(start, lo, hi, s);
@@ -131,12 +131,12 @@ pub fn score_starting<'a>(
     s: u32,
     t: u32,
 ) -> i64
-    requires rising_1 { Rising start.now lo hi }
-    requires rising_2 { Sound 10000000 start.now end.now score.now lo hi }
-    requires rated_1 { Rated start.now end.now score.now lo hi rate.now }
-    requires rated_2 { hi ≤ length rate.now }
-    requires s_le_t_1 { s ≤ t }
-    requires s_le_t_2 { t ≤ 4000000 }
+    requires rising { Rising start.now lo hi }
+    requires sound { Sound 10000000 start.now end.now score.now lo hi }
+    requires rated { Rated start.now end.now score.now lo hi rate.now }
+    requires room { hi ≤ length rate.now }
+    requires ordered { s ≤ t }
+    requires bounded { t ≤ 4000000 }
     ensures { (kind : ℕ) → result ≡ scored method s t (keep (starts_at s) (rows kind start.now end.now score.now lo hi)) }
 {
     let span = starting_at(start, lo, hi, s);
@@ -153,10 +153,10 @@ pub fn share_to<'a>(
     s: u32,
     t: u32,
 ) -> i64
-    requires rising_1 { Rising start.now lo hi }
-    requires rising_2 { Sound 10000000 start.now end.now score.now lo hi }
-    requires s_le_t_1 { s ≤ t }
-    requires s_le_t_2 { t ≤ 4000000 }
+    requires rising { Rising start.now lo hi }
+    requires sound { Sound 10000000 start.now end.now score.now lo hi }
+    requires ordered { s ≤ t }
+    requires bounded { t ≤ 4000000 }
     ensures { (kind : ℕ) → result ≡ largest_share s t (rows kind start.now end.now score.now lo hi) }
 {
     let behind = sorted::first_from(start, lo, hi, t + 1);
@@ -212,7 +212,7 @@ pub fn narrow_slots<'a>(
 ) -> usize
     requires sound { Sound 10000000 start.now end.now score.now 0 total }
     requires narrowing { Narrowing at.now total used.now bounds.old starts.old ends.old scores.old }
-    ensures upper_bound { result ≤ total }
+    ensures within { result ≤ total }
     ensures grouped { Grouped (ending used.now t at.now start.now end.now score.now) bounds.new starts.new ends.new scores.new 64 result }
 {
     bounds[0] = 0;

@@ -90,7 +90,7 @@ agreed_alike x {one} {other} p q [] = rw (append-nil one, append-nil other) (sym
 agreed_alike x {one} {other} {any} {value} p q (g ∷ more) =
     let look : Looked (enters x x g) any value (held x g) true (cond any (larger_of value (held x g)) (held x g)) = record { any_is = refl; value_is = refl } in
     rw (← append_assoc one (g ∷ []) more, ← append_assoc other (g ∷ []) more)
-    (agreed_alike x (pick_step (enters x x) (held x) g refl p look) (pick_step (enters x x) (held x) g refl q look) more)
+    (agreed_alike x {one = one ++ (g ∷ [])} {other = other ++ (g ∷ [])} (pick_step (enters x x) (held x) g refl p look) (pick_step (enters x x) (held x) g refl q look) more)
 
 -- a segment that ends before `from` gives 0 from there on
 ended : (from x start end : ℕ) (z : ℤ) → leb from end ≡ false → from ≤ x → held x (stretch start end z) ≡ pos 0

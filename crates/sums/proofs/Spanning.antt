@@ -3,7 +3,7 @@ use mathlib.Core.Path.{◌≡◌, refl, sym, ◌∙◌}
 use mathlib.Core.Logic.{◌⊎◌, inl, inr}
 use mathlib.Core.Bool.{Bool, true, false, cond}
 use mathlib.Core.List.{List, [], ◌∷◌, ◌++◌}
-use Prim.Native.Nat.{ℕ, ◌+◌, ◌-◌, ◌≤◌, ◌<◌}
+use Prim.Native.Nat.{ℕ, ◌+◌, ◌≤◌, ◌<◌}
 use native.Mathlib.Omega.{arith}
 use lib.IntN.{ℤ, pos}
 use lib.ListN.{get_or}
@@ -16,7 +16,7 @@ use Rattle.gaze.proofs.ListLaws.{listed_none, listed_more}
 use Rattle.gaze.proofs.Tests.{at_or_below}
 use Rattle.rows.specs.Rows.{stretch, row, rows}
 use Rattle.rows.specs.Maximum.{Looked}
-use Rattle.rows.specs.Peaks.{held, peak, Flat}
+use Rattle.rows.specs.Peaks.{held, Flat}
 use Rattle.rows.proofs.Picking.{Picked, pick_none, pick_step}
 use Rattle.rows.proofs.Plateaus.{held_before, held_behind, held_in}
 use Rattle.sums.specs.Window.{Spanned, Level}

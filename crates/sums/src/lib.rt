@@ -70,7 +70,7 @@ fn close_rows(
 }
 
 // The next row to open, how many are open, and the base up to which these are enough.
-#[derive(Drop)]
+#[derive(Clone, Copy)]
 struct Opened {
     next: usize,
     count: usize,
@@ -100,13 +100,13 @@ fn open_rows<'a>(
     ends: &mut [u32],
     rates: &mut [i64],
 ) -> Opened
-    requires sound_1 { Sound 10000000000 start.now end.now rate.now lo hi }
-    requires sound_2 { Rising start.now lo hi }
-    requires room_1 { Room 0 (hi - lo) starts.old ends.old rates.old }
-    requires room_2 { x ≤ 4000000 }
-    requires fact { Open start.now end.now rate.now lo hi x from.next from.count from.ahead starts.old ends.old rates.old }
-    ensures fact_1 { x < result.ahead }
-    ensures fact_2 { Open start.now end.now rate.now lo hi x result.next result.count result.ahead starts.new ends.new rates.new }
+    requires sound { Sound 10000000000 start.now end.now rate.now lo hi }
+    requires rising { Rising start.now lo hi }
+    requires room { Room 0 (hi - lo) starts.old ends.old rates.old }
+    requires bounded { x ≤ 4000000 }
+    requires opened { Open start.now end.now rate.now lo hi x from.next from.count from.ahead starts.old ends.old rates.old }
+    ensures ahead { x < result.ahead }
+    ensures opened { Open start.now end.now rate.now lo hi x result.next result.count result.ahead starts.new ends.new rates.new }
 {
     let mut i = from.next;
     let mut o = from.count;
@@ -143,14 +143,14 @@ fn reopen<'a>(
     ends: &mut [u32],
     rates: &mut [i64],
 ) -> Opened
-    requires sound_1 { Sound 10000000000 start.now end.now rate.now lo hi }
-    requires sound_2 { Rising start.now lo hi }
-    requires room_1 { Room 0 (hi - lo) starts.old ends.old rates.old }
-    requires room_2 { walk.at ≤ walk.to }
-    requires room_3 { walk.to ≤ 4000000 }
-    requires fact { Open start.now end.now rate.now lo hi walk.at walk.next walk.count walk.ahead starts.old ends.old rates.old }
-    ensures fact_1 { walk.to < result.ahead }
-    ensures fact_2 { Open start.now end.now rate.now lo hi walk.to result.next result.count result.ahead starts.new ends.new rates.new }
+    requires sound { Sound 10000000000 start.now end.now rate.now lo hi }
+    requires rising { Rising start.now lo hi }
+    requires room { Room 0 (hi - lo) starts.old ends.old rates.old }
+    requires onward { walk.at ≤ walk.to }
+    requires bounded { walk.to ≤ 4000000 }
+    requires opened { Open start.now end.now rate.now lo hi walk.at walk.next walk.count walk.ahead starts.old ends.old rates.old }
+    ensures ahead { walk.to < result.ahead }
+    ensures opened { Open start.now end.now rate.now lo hi walk.to result.next result.count result.ahead starts.new ends.new rates.new }
 {
     if walk.to < walk.ahead {
         return Opened {
@@ -171,7 +171,7 @@ fn reopen<'a>(
 // ---- how far a plateau goes
 
 // Of the bases from some base on: before `until` some row gives the value, before `limit` none gives more.
-#[derive(Drop)]
+#[derive(Clone, Copy)]
 struct Span {
     until: u32,
     limit: u32,
@@ -179,8 +179,8 @@ struct Span {
 
 // One more row. A row that gives less than a value that is not below 0 changes nothing, wherever it starts or ends.
 fn span_on(span: Span, x: u32, value: i64, start: u32, end: u32, rate: i64) -> Span
-    requires fact_1 { le_z (pos 0) value ≡ true }
-    requires fact_2 { end ≤ 4000000 }
+    requires not_below_0 { le_z (pos 0) value ≡ true }
+    requires bounded { end ≤ 4000000 }
     ensures { Spanned x value start end rate span.until span.limit result.until result.limit }
 {
     if whole::below(value, rate) {
@@ -220,8 +220,8 @@ fn level_to<'a>(
     value: i64,
     ahead: u32,
 ) -> u32
-    requires fact_1 { Sound 10000000000 starts.now ends.now rates.now 0 count }
-    requires fact_2 { le_z (pos 0) value ≡ true }
+    requires sound { Sound 10000000000 starts.now ends.now rates.now 0 count }
+    requires not_below_0 { le_z (pos 0) value ≡ true }
     ensures { Level starts.now ends.now rates.now count x value ahead result }
 {
     let mut span = Span {
@@ -250,7 +250,7 @@ fn lengthen<'a>(
     ahead: u32,
 ) -> u32
     requires sound { Sound 10000000000 starts.now ends.now rates.now 0 count }
-    requires by_index { (kind : ℕ) → Flat (rows kind starts.now ends.now rates.now 0 count) x ahead flat.value flat.next }
+    requires plateau { (kind : ℕ) → Flat (rows kind starts.now ends.now rates.now 0 count) x ahead flat.value flat.next }
     ensures { (kind : ℕ) → Flat (rows kind starts.now ends.now rates.now 0 count) x ahead flat.value result }
 {
     if whole::below(flat.value, 0) {
@@ -266,7 +266,7 @@ fn lengthen<'a>(
 // ---- the walk
 
 // The sum of the peaks up to `at`, which is left out; the peak of each base from there to `to`, which is left out; and the rows that are open.
-#[derive(Drop)]
+#[derive(Clone, Copy)]
 struct Walk {
     at: u32,
     sum: i64,
@@ -279,9 +279,9 @@ struct Walk {
 
 // The sum up to `p`, which is left out, on the plateau.
 fn reached(walk: Walk, p: u32) -> i64
-    requires fact_1 { walk.at ≤ p }
-    requires fact_2 { nat_abs walk.sum ≤ 40000010000000000 }
-    requires fact_3 { nat_abs (walk.value *ℤ pos (p - walk.at)) ≤ 40000010000000000 }
+    requires behind { walk.at ≤ p }
+    requires sum_small { nat_abs walk.sum ≤ 40000010000000000 }
+    requires gain_small { nat_abs (walk.value *ℤ pos (p - walk.at)) ≤ 40000010000000000 }
     ensures { result ≡ walk.sum +ℤ walk.value *ℤ pos (p - walk.at) }
 {
     let x = walk.at;
@@ -301,14 +301,14 @@ fn advance<'a>(
     ends: &mut [u32],
     rates: &mut [i64],
 ) -> Walk
-    requires sound_1 { Sound 10000000000 start.now end.now rate.now lo hi }
-    requires sound_2 { Rising start.now lo hi }
-    requires room_1 { Room 0 (hi - lo) starts.old ends.old rates.old }
-    requires room_2 { walk.to ≤ 4000000 }
+    requires sound { Sound 10000000000 start.now end.now rate.now lo hi }
+    requires rising { Rising start.now lo hi }
+    requires room { Room 0 (hi - lo) starts.old ends.old rates.old }
+    requires bounded { walk.to ≤ 4000000 }
     requires walked { Walked start.now end.now rate.now lo hi walk.at walk.sum walk.value walk.to walk.next walk.count walk.ahead starts.old ends.old rates.old }
-    ensures at_value_1 { result.at ≡ walk.to }
-    ensures at_value_2 { walk.to < result.to }
-    ensures walked_2 { Walked start.now end.now rate.now lo hi result.at result.sum result.value result.to result.next result.count result.ahead starts.new ends.new rates.new }
+    ensures begun { result.at ≡ walk.to }
+    ensures onward { walk.to < result.to }
+    ensures walked { Walked start.now end.now rate.now lo hi result.at result.sum result.value result.to result.next result.count result.ahead starts.new ends.new rates.new }
 {
     let x = walk.to;
     let sum = reached(walk, x);
@@ -339,15 +339,15 @@ fn walk_to<'a>(
     ends: &mut [u32],
     rates: &mut [i64],
 ) -> Walk
-    requires sound_1 { Sound 10000000000 start.now end.now rate.now lo hi }
-    requires sound_2 { Rising start.now lo hi }
-    requires room_1 { Room 0 (hi - lo) starts.old ends.old rates.old }
-    requires room_2 { walk.at ≤ p }
-    requires room_3 { p ≤ 4000000 }
+    requires sound { Sound 10000000000 start.now end.now rate.now lo hi }
+    requires rising { Rising start.now lo hi }
+    requires room { Room 0 (hi - lo) starts.old ends.old rates.old }
+    requires behind { walk.at ≤ p }
+    requires bounded { p ≤ 4000000 }
     requires walked { Walked start.now end.now rate.now lo hi walk.at walk.sum walk.value walk.to walk.next walk.count walk.ahead starts.old ends.old rates.old }
-    ensures at_le_p_1 { result.at ≤ p }
-    ensures at_le_p_2 { p < result.to }
-    ensures walked_2 { Walked start.now end.now rate.now lo hi result.at result.sum result.value result.to result.next result.count result.ahead starts.new ends.new rates.new }
+    ensures begun { result.at ≤ p }
+    ensures beyond { p < result.to }
+    ensures walked { Walked start.now end.now rate.now lo hi result.at result.sum result.value result.to result.next result.count result.ahead starts.new ends.new rates.new }
 {
     let mut here = walk;
     while here.to <= p {
@@ -370,11 +370,11 @@ fn fill_slot<'a>(
     base: usize,
     table: &mut [i64],
 )
-    requires sound_1 { Sound 10000000000 start.now end.now rate.now lo hi }
-    requires sound_2 { Rising start.now lo hi }
-    requires lo_bound_1 { hi - lo ≤ 1024 }
-    requires lo_bound_2 { Places position.now n }
-    requires lo_bound_3 { base + 2 * n ≤ length table.old }
+    requires sound { Sound 10000000000 start.now end.now rate.now lo hi }
+    requires rising { Rising start.now lo hi }
+    requires few { hi - lo ≤ 1024 }
+    requires places { Places position.now n }
+    requires room { base + 2 * n ≤ length table.old }
     ensures { Fill start.now end.now rate.now lo hi position.now base n table.old table.new }
 {
     let mut starts = [0u32; 1024];
@@ -425,11 +425,11 @@ fn fill_if_used<'a>(
     base: usize,
     table: &mut [i64],
 )
-    requires sound_1 { Sound 10000000000 start.now end.now rate.now lo hi }
-    requires sound_2 { Rising start.now lo hi }
-    requires lo_bound_1 { hi - lo ≤ 1024 }
-    requires lo_bound_2 { Places position.now n }
-    requires lo_bound_3 { base + 2 * n ≤ length table.old }
+    requires sound { Sound 10000000000 start.now end.now rate.now lo hi }
+    requires rising { Rising start.now lo hi }
+    requires few { hi - lo ≤ 1024 }
+    requires places { Places position.now n }
+    requires room { base + 2 * n ≤ length table.old }
     ensures { SlotFill used start.now end.now rate.now lo hi position.now base n table.old table.new }
 {
     if !used {
@@ -451,8 +451,8 @@ pub fn fill_table<'a>(
     table: &mut [i64],
 )
     requires sound { Sound 10000000000 start.now end.now rate.now 0 total }
-    requires places_1 { Places position.now n }
-    requires places_2 { Filling at.now start.now total used.now table.old }
+    requires places { Places position.now n }
+    requires filling { Filling at.now start.now total used.now table.old }
     ensures { Sums used.now at.now start.now end.now rate.now position.now n 64 table.new }
 {
     let mut j: usize = 0;
@@ -475,11 +475,11 @@ pub fn fill_table<'a>(
 
 // The score by method 2 over the region from candidate `i` to candidate `j`, of a slot's segments.
 pub fn pair_score(table: &[i64], slot: usize, i: usize, j: usize) -> i64
-    requires fact_1 { slot < 64 }
-    requires fact_2 { i < 1026 }
-    requires fact_3 { j < 1026 }
-    requires fact_4 { 131328 ≤ length table.now }
-    requires fact_5 { Small table.now }
+    requires slot_low { slot < 64 }
+    requires i_low { i < 1026 }
+    requires j_low { j < 1026 }
+    requires room { 131328 ≤ length table.now }
+    requires small { Small table.now }
     ensures { result ≡ floor_of (get_or table.now (slot * 2052 + 2 * j + 1) (pos 0) -ℤ get_or table.now (slot * 2052 + 2 * i) (pos 0)) 1000 }
 {
     let base = slot * 2052;
