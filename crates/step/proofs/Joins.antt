@@ -1,11 +1,11 @@
 -- The parts of a step, joined: a sheet that is held, with the rows that end at a target, is the evidence that region scores ask for.
-use mathlib.Core.Path.{◌≡◌, sym, subst}
+use mathlib.Core.Path.{subst}
 use mathlib.Core.Bool.{Bool, false}
 use mathlib.Core.List.{List}
 use Prim.Native.Nat.{ℕ, suc, ◌≤◌, ◌<◌}
 use native.Mathlib.Omega.{arith}
 use lib.IntN.{ℤ}
-use lib.ListN.{length, get_or, replicate}
+use lib.ListN.{get_or, replicate}
 use Rattle.gaze.specs.Sheet.{Sheet, candidate, end_number}
 use Rattle.rows.specs.Rows.{Sound}
 use Rattle.slots.specs.Slots.{Grouped, ending, Narrowing}

@@ -23,9 +23,9 @@ fn narrow<'a>(
     scores: &mut [i64],
     rates: &mut [i64],
 )
-    requires fact_1 { Sound 10000000 start.now end.now score.now 0 total }
-    requires fact_2 { Narrowing at.now total used.now bounds.old starts.old ends.old scores.old }
-    requires fact_3 { total ≤ length rates.old }
+    requires sound { Sound 10000000 start.now end.now score.now 0 total }
+    requires narrowing { Narrowing at.now total used.now bounds.old starts.old ends.old scores.old }
+    requires rates_room { total ≤ length rates.old }
     ensures { Near used.now p at.now start.now end.now score.now bounds.new starts.new ends.new scores.new rates.new }
 {
     let rows = slots::narrow_slots(
@@ -70,10 +70,10 @@ pub fn steps_into<'a>(
 )
     requires target { Target kind.now position.now score.now rules.now table.now distance.now penalty.now first.now intron.now lines.now pairs.now at.now start.now end.now worth.now rate.now total used.now summed.now sums.now t }
     requires scratch { Scratch total bounds.old starts.old ends.old scores.old rates.old }
-    requires lo_le_hi_1 { lo ≤ hi }
-    requires lo_le_hi_2 { hi ≤ t }
-    requires lo_le_hi_3 { hi ≤ length legal.old }
-    requires lo_le_hi_4 { hi ≤ length gains.old }
+    requires ordered { lo ≤ hi }
+    requires before_target { hi ≤ t }
+    requires legal_room { hi ≤ length legal.old }
+    requires gains_room { hi ≤ length gains.old }
     ensures { (sheet : Sheet) → Model sheet kind.now position.now score.now rules.now table.now distance.now penalty.now first.now intron.now lines.now pairs.now at.now start.now end.now worth.now rate.now total used.now summed.now sums.now → t ≤ end_number sheet → StepRows sheet t lo hi legal.new gains.new }
 {
     rules::legal_row(kind, position, rules, table, t, lo, hi, legal);

@@ -25,7 +25,8 @@ slice_copy_out-charge_legal c = omega (arith, c.loop-s.invariant.1.0)
 pub overflow_sub-p : goal.overflow_sub-p
 overflow_sub-p c =
     let p = c.requires.scored in
-    (lookup p.sheet c.args.kind.now c.args.position.now c.args.rules.now c.args.table.now p.held.legality c.loop-s.s c.args.t (omega arith) p.to_end).ordered
+    let at = lookup p.sheet c.args.kind.now c.args.position.now c.args.rules.now c.args.table.now p.held.legality in
+    omega (arith, (at c.loop-s.s c.args.t (omega arith) p.to_end).ordered, (at c.args.lo c.args.t (omega arith) p.to_end).ordered)
 
 pub charge_legal-requires : goal.charge_legal-requires
 charge_legal-requires c = λ y.
