@@ -1,5 +1,5 @@
 -- A sheet's tables: what each asks of the sheet's columns, and that together they are its model.
-use mathlib.Core.Path.{◌≡◌, refl, sym, ap, ◌∙◌, subst}
+use mathlib.Core.Path.{◌≡◌, sym, ap, ◌∙◌, subst}
 use mathlib.Core.Logic.{⊎_elim}
 use mathlib.Core.Bool.{Bool, false}
 use mathlib.Core.List.{List}
@@ -9,12 +9,11 @@ use borrow.Author.Tests.{le-leb}
 use lib.IntN.{ℤ}
 use lib.ListN.{length}
 use Rattle.gaze.specs.declared.Point.{Point}
-use Rattle.gaze.specs.declared.Rule.{Rule}
 use Rattle.gaze.specs.Lists.{Each, listed}
 use Rattle.gaze.specs.Sheet.{Sheet, end_number}
 use Rattle.gaze.specs.Penalty.{penalty}
 use Rattle.gaze.specs.Ranges.{SourceType, PointRanges, RuleRanges, point_keys, Group}
-use Rattle.gaze.specs.Columns.{point_at, rule_at, qualifier_at, Candidates, Scores, Points}
+use Rattle.gaze.specs.Columns.{point_at, rule_at, qualifier_at, Points}
 use Rattle.gaze.proofs.ListLaws.{each_listed, listed_each}
 use Rattle.sorted.specs.Sorted.{FirstRows}
 use Rattle.penalty.specs.Intron.{IntronTable}

@@ -1,7 +1,7 @@
 -- A chain step by step: a target's size, one step, the front of a chain that has been walked, and what a whole walk says.
 use mathlib.Core.Path.{◌≡◌, refl, sym, ap, ap₂, ◌∙◌, subst}
 use mathlib.Core.Logic.{⊎_elim}
-use mathlib.Core.Bool.{Bool, true, false, not}
+use mathlib.Core.Bool.{Bool, false, not}
 use mathlib.Core.List.{List, [], ◌∷◌}
 use Prim.Native.Nat.{ℕ, zero, suc, ◌+◌, ◌-◌, ◌*◌, ◌^◌, ◌≤◌, ◌<◌}
 use native.Mathlib.Nat.{eq-or-lt_of_le}
@@ -19,11 +19,11 @@ use Rattle.whole.proofs.Size.{abs_sum}
 use Rattle.gaze.specs.declared.Verdict.TheVariants.{Breaks, Scores}
 use Rattle.gaze.specs.Chain.{Steps, Chain, Judged, legal_step, total}
 use Rattle.gaze.specs.Sheet.{Sheet, end_number}
-use Rattle.gaze.specs.Step.{steps, legal, gain}
+use Rattle.gaze.specs.Step.{steps, gain}
 use Rattle.gaze.specs.Ranges.{InRange}
 use Rattle.gaze.proofs.Bounds.{gain_size}
 use Rattle.gaze.proofs.Entries.{length_to, total_front, valid_of}
-use Rattle.step.specs.Model.{Model, Target, StepRows}
+use Rattle.step.specs.Model.{Target, StepRows}
 use Rattle.engine.specs.Search.{StepIs}
 
 module _ {kinds positions : List ℕ} {scores : List ℤ} {rows table distances : List ℕ} {penalties : List ℤ} {first : List ℕ} {intron : List ℤ}

@@ -1,5 +1,5 @@
 -- The search over a sheet that is held in columns: what it asks, and what its columns then say.
-use Rattle.std.specs.Prelude.{◌≡◌, Bool, List, ℕ, suc, ◌≤◌, ◌<◌, T, ℤ, length}
+use Rattle.std.specs.Prelude.{◌≡◌, Bool, List, ℕ, suc, ◌≤◌, T, ℤ, length}
 use Rattle.gaze.specs.Chain.{Chain}
 use Rattle.gaze.specs.Sheet.{Sheet, end_number}
 use Rattle.gaze.specs.Step.{legal, gain}

@@ -43,8 +43,8 @@ fn step_of<'a>(
     s: usize,
     t: usize,
 ) -> Taken
-    requires fact_1 { Target kind.now position.now score.now rules.now table.now distance.now penalty.now first.now intron.now lines.now pairs.now at.now start.now end.now worth.now rate.now total used.now summed.now sums.now t }
-    requires fact_2 { s < t }
+    requires target { Target kind.now position.now score.now rules.now table.now distance.now penalty.now first.now intron.now lines.now pairs.now at.now start.now end.now worth.now rate.now total used.now summed.now sums.now t }
+    requires earlier { s < t }
     ensures { (sheet : Sheet) → Model sheet kind.now position.now score.now rules.now table.now distance.now penalty.now first.now intron.now lines.now pairs.now at.now start.now end.now worth.now rate.now total used.now summed.now sums.now → t ≤ end_number sheet → StepIs sheet s t result.legal result.gain }
 {
     let mut bounds = [0usize; 65];

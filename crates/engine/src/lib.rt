@@ -83,9 +83,9 @@ fn asks_for(q: Qualifier, sums: bool) -> bool
 }
 
 fn mark_line(q: Qualifier, sums: bool, marks: &mut [bool])
-    requires fact_1 { q.kind ≤ 15 }
-    requires fact_2 { q.phase ≤ 3 }
-    requires fact_3 { 64 ≤ length marks.old }
+    requires known_kind { q.kind ≤ 15 }
+    requires known_phase { q.phase ≤ 3 }
+    requires room { 64 ≤ length marks.old }
     ensures { OneMore sums q marks.old marks.new }
 {
     if asks_for(q, sums) {
@@ -97,8 +97,8 @@ fn mark_line(q: Qualifier, sums: bool, marks: &mut [bool])
 // Of the first `count` Q lines the slots whose running sums they ask for, or else those whose rows that end at the target.
 fn mark_lines(lines: &[u32], count: usize, sums: bool) -> [bool; 64]
     requires { LinesHeld lines.now count }
-    ensures fact_1 { length result ≡ 64 }
-    ensures fact_2 { Marks sums lines.now count result }
+    ensures long { length result ≡ 64 }
+    ensures marked { Marks sums lines.now count result }
 {
     let mut marks = [false; 64];
     let mut k: usize = 0;
@@ -187,8 +187,8 @@ fn search<'a>(
     from: &mut [u32],
 )
     requires held { Held kind.now position.now score.now rules.now table.now distance.now penalty.now first.now intron.now lines.now pairs.now at.now start.now end.now worth.now rate.now total used.now summed.now sums.now n }
-    requires scratch_1 { Scratch total bounds.old starts.old ends.old scores.old rates.old }
-    requires scratch_2 { Places n legal.old gains.old reach.old value.old from.old }
+    requires scratch { Scratch total bounds.old starts.old ends.old scores.old rates.old }
+    requires places { Places n legal.old gains.old reach.old value.old from.old }
     ensures same_lengths { SameLengths reach.old reach.new value.old value.new from.old from.new }
     ensures searched { (sheet : Sheet) → Model sheet kind.now position.now score.now rules.now table.now distance.now penalty.now first.now intron.now lines.now pairs.now at.now start.now end.now worth.now rate.now total used.now summed.now sums.now → n ≡ suc (end_number sheet) → Searched (steps sheet) n reach.new value.new from.new }
 {
@@ -218,8 +218,8 @@ pub fn best_chain<'a>(
     n: usize,
     chain: &mut [u32],
 ) -> chains::Found
-    requires fact_1 { Ready kind.now position.now score.now rules.now distance.now penalty.now lines.now tables n }
-    requires fact_2 { n ≤ length chain.old }
+    requires ready { Ready kind.now position.now score.now rules.now distance.now penalty.now lines.now tables n }
+    requires room { n ≤ length chain.old }
     ensures { (sheet : Sheet) → ReadyFor sheet kind.now position.now score.now rules.now distance.now penalty.now lines.now tables n → Answers (steps sheet) (end_number sheet) chain.old result chain.new }
 {
     let mut sums = sums::empty_table();
