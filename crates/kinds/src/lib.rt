@@ -8,7 +8,7 @@ ghost use Rattle.std.specs.Int.Signed.{le_z};
 ghost use Rattle.kinds.specs.Kinds.{byte_of, fields_of, most_of, between, field, thousandths, source_type, interruption, in_range};
 ghost use Rattle.kinds.specs.Order.{keys_of, compared, decided, order, disorder};
 
-#[derive(Drop)]
+#[derive(Clone, Copy)]
 pub enum Letter {
     L,
     P,

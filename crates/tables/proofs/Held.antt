@@ -9,7 +9,6 @@ use lib.ListN.{length, get_or, take, length-map, get_or-map}
 use lib.Seq.{sets, length-sets}
 use Rattle.text.specs.Lines.{lines}
 use Rattle.gaze.specs.Lists.{Each, listed}
-use Rattle.gaze.specs.Sheet.{end}
 use Rattle.gaze.specs.Columns.{point_at, rule_at, qualifier_at, segment_at, interruption_of, Points, Rules, Qualifiers, Segments}
 use Rattle.gaze.proofs.ListLaws.{each_at, each_map, map_by_place}
 use Rattle.kinds.specs.declared.Letter.{Letter}

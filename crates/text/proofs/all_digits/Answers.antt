@@ -1,10 +1,6 @@
 -- `all_digits` is right because it stops at the first byte that is no digit. The invariant: all bytes are digits if those from `i` on are.
-use mathlib.Core.Path.{◌≡◌, refl, sym, ◌∙◌}
-use Prim.Native.Nat.{◌-◌}
+use mathlib.Core.Path.{refl, sym, ◌∙◌}
 use native.Mathlib.Omega.{arith}
-use lib.ListN.{length, drop}
-use borrow.Author.Rules.{rules}
-use Rattle.text.specs.Number.{all_digits}
 use Rattle.text.proofs.Digits.{digits_on, digits_end}
 use Rattle.text.proofs.all_digits.Goals as goal
 

@@ -1,11 +1,8 @@
 -- `all_digits` is right because it stops at the first byte that is no digit. The invariant: all bytes are digits if those from `i` on are.
-use mathlib.Core.Path.{◌≡◌, refl, sym, ◌∙◌}
+use mathlib.Core.Path.{◌≡◌}
 use Prim.Native.Nat.{◌-◌}
-use native.Mathlib.Omega.{arith}
 use lib.ListN.{length, drop}
-use borrow.Author.Rules.{rules}
 use Rattle.text.specs.Number.{all_digits}
-use Rattle.text.proofs.Digits.{digits_on, digits_end}
 use Rattle.text.proofs.all_digits.Given as goal
 
 abbrev pub invariant-loop-i : goal.invariant-loop-i

@@ -1,5 +1,4 @@
 -- `is_plain` is right because it is the definition's test, put by calls that are right.
-use borrow.Author.Rules.{rules}
 use Rattle.text.specs.Number.{plain}
 use Rattle.text.proofs.is_plain.Goals as goal
 

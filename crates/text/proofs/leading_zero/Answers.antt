@@ -1,6 +1,5 @@
 -- `leading_zero` is right because it asks of the first byte only where there are two.
 use lib.ListN.{length}
-use borrow.Author.Rules.{rules}
 use borrow.Author.Tests.{lt-ltb, le-ltb}
 use Rattle.text.specs.Number.{leading_zero}
 use Rattle.text.proofs.leading_zero.Goals as goal

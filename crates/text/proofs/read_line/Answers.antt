@@ -1,7 +1,6 @@
 -- `read_line` is right because it asks for the letter as the definition does, and `read_fields` reads what stands after it.
 use mathlib.Core.Path.{sym, ap, ◌∙◌}
 use native.Mathlib.Omega.{arith}
-use borrow.Author.Rules.{rules}
 use Rattle.text.specs.Fields.{fields, row_of}
 use Rattle.text.proofs.Words.{part_to_end}
 use Rattle.text.proofs.Fields.{line_empty, line_other, line_fields}

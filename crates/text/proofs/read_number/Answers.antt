@@ -1,7 +1,6 @@
 -- `read_number` is right because the first byte says which of the two readings the definition takes.
 use mathlib.Core.Path.{sym, ap, ◌∙◌}
 use native.Mathlib.Omega.{arith}
-use borrow.Author.Rules.{rules}
 use Rattle.text.specs.Number.{negative}
 use Rattle.text.proofs.Digits.{number_empty, number_negative, number_unsigned}
 use Rattle.text.proofs.Words.{part_to_end}

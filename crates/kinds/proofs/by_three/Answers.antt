@@ -1,0 +1,10 @@
+-- `by_three` is right because the later two keys are asked only where the first is the same.
+use mathlib.Core.Path.{ap₂, ◌∙◌}
+use Rattle.kinds.specs.Order.{decided}
+use Rattle.kinds.proofs.Orders.{first_key}
+use Rattle.kinds.proofs.by_three.Goals as goal
+
+pub returns : goal.returns
+returns c =
+    let a = c.args in
+    c.decided.ensures ∙ ap₂ decided c.by_one.ensures c.by_two.ensures ∙ first_key a.i _ a.first a.second

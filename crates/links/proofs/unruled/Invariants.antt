@@ -1,0 +1,24 @@
+-- `unruled` is right because it stops at the first Q line that has no rule. The invariant: those before i have theirs.
+use mathlib.Core.Path.{◌≡◌}
+use mathlib.Core.Bool.{Bool}
+use mathlib.Core.List.{List}
+use Prim.Native.Nat.{ℕ, ◌≤◌, ◌-◌, ◌+◌, ◌*◌}
+use lib.IntN.{ℤ, pos, nat_abs}
+use lib.ListN.{get_or}
+use Rattle.gaze.specs.Lists.{listed}
+use Rattle.gaze.specs.Columns.{rule_at}
+use Rattle.links.specs.Links.{has_rule, missing}
+use borrow.Author.Rules.{rules}
+use Rattle.links.proofs.unruled.Given as goal
+
+abbrev pub has : List ℕ → ℕ → List ℕ → ℕ → Bool
+has rules among qualifiers i = has_rule (listed (rule_at rules) 0 among) (get_or qualifiers (6 * i) 0) (get_or qualifiers (6 * i + 1) 0)
+
+abbrev pub place : List ℤ → ℕ → ℕ
+place places i = nat_abs (get_or places i (pos 0))
+
+abbrev pub invariant-loop-i : goal.invariant-loop-i
+invariant-loop-i l = (l.i ≤ l.count) × (missing (has l.rules l.among l.qualifiers) (place l.places) (listed (λ j. j) 0 l.count) ≡ missing (has l.rules l.among l.qualifiers) (place l.places) (listed (λ j. j) l.i (l.count - l.i)))
+
+abbrev pub decreases-loop-i : goal.decreases-loop-i
+decreases-loop-i l = l.count - l.i
