@@ -2,12 +2,12 @@
 
 #![tactic(auto)]
 
-use libc::{STDIN_FILENO, STDOUT_FILENO};
+use std::io;
 
-fn main() {
+fn main(rt: HostRuntime) -> io::Result<()> {
     let mut bytes = report::sheet_room();
-    let size = io::read_full(STDIN_FILENO, &mut bytes);
+    let size = report::read_full(&mut rt.reader(), &mut bytes)?;
     let mut out = report::report_room();
     let end = report::push_report(&mut out, 0, &bytes[..size]);
-    io::write_all(STDOUT_FILENO, &out[..end]);
+    rt.write_all(&out[..end])
 }

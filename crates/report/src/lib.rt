@@ -1,16 +1,55 @@
-// What is printed of a sheet: the reply to it, and under the reply a line for each entry of its best chain.
+// What is read and printed of a sheet: its bytes, the reply to it, and under the reply a line for each entry of its best chain.
 
 #![tactic(auto)]
 
-ghost use Rattle.std.specs.Prelude.{◌≤◌, length};
+ghost use Rattle.std.specs.Prelude.{◌≡◌, ◌≤◌, ◌<◌, length, take, IfOk};
+ghost use Rattle.std.specs.Io.KnownBytes.{Consumes, IsAtEnd};
 ghost use Rattle.io.specs.Counts.{IsPrefixLen};
 
 use liivokarp::Reply;
 use printing::{push, push_field, push_number, push_signed};
+use std::io;
+use std::io::{ErrorKind, Read};
 
 // One byte more than a sheet may have, to tell a sheet that is too long.
 pub fn sheet_room() -> [u8; 65537] {
     [0u8; 65537]
+}
+
+// One read, again where a signal interrupts it.
+fn read_some<R: Read>(reader: &mut R, bytes: &mut [u8]) -> io::Result<usize>
+    ensures within { IfOk result (λ n. IsPrefixLen n bytes.new) }
+    ensures taken { IfOk result (λ n. Consumes (R.remaining reader.old) (R.remaining reader.new) (take n bytes.new)) }
+    ensures all { IfOk result (λ n. n ≡ 0 → 0 < length bytes.new → IsAtEnd (R.remaining reader.new)) }
+{
+    for _ in 0..u64::MAX {
+        match reader.read(bytes) {
+            Ok(n) => return Ok(n),
+            Err(e) => {
+                if e.kind() != ErrorKind::Interrupted {
+                    return Err(e);
+                }
+            }
+        }
+    }
+    Err(io::Error::from(ErrorKind::Interrupted))
+}
+
+// Reads until there is no more room or the reader is at its end, however short each read is, and says how many bytes there are.
+pub fn read_full<R: Read>(reader: &mut R, bytes: &mut [u8]) -> io::Result<usize>
+    ensures within { IfOk result (λ n. IsPrefixLen n bytes.new) }
+    ensures taken { IfOk result (λ n. Consumes (R.remaining reader.old) (R.remaining reader.new) (take n bytes.new)) }
+    ensures all { IfOk result (λ n. n < length bytes.new → IsAtEnd (R.remaining reader.new)) }
+{
+    let mut done = 0;
+    while done < bytes.len() {
+        let n = read_some(reader, &mut bytes[done..])?;
+        if n == 0 {
+            break;
+        }
+        done += n;
+    }
+    Ok(done)
 }
 
 // A reply has at most 84 bytes, and each of the 1,026 lines that may stand under it at most 33.
@@ -82,8 +121,8 @@ pub fn push_report(out: &mut [u8], at: usize, bytes: &[u8]) -> usize
 {
     let mut chain = [0u32; 1026];
     let reply = liivokarp::lk_assemble(bytes, &mut chain);
-    let end = push_reply(out, at, reply);
     let count = reply.count as usize;
+    let end = push_reply(out, at, reply);
     if count > chain.len() {
         return end;
     }

@@ -3,38 +3,35 @@
 
 #![tactic(auto)]
 
-use libc::STDOUT_FILENO;
 use printing::{push, push_lines, push_trailer};
+use std::io;
 
 // More than any sheet here needs. What does not fit is left out.
 fn room() -> [u8; 70000] {
     [0u8; 70000]
 }
 
-fn show(group: &[u8], bytes: &[u8]) {
+fn show(rt: &impl Print, group: &str, bytes: &[u8]) -> io::Result<()> {
     let columns = sheet::read(bytes);
-    io::write_all(STDOUT_FILENO, group);
-    io::print_decimal(STDOUT_FILENO, bytes.len() as u64);
-    io::write_all(STDOUT_FILENO, b" bytes: ");
-    io::print_decimal(STDOUT_FILENO, columns.number);
-    io::write_all(STDOUT_FILENO, b" ");
-    io::print_decimal(STDOUT_FILENO, columns.place);
-    io::write_all(STDOUT_FILENO, b"\n");
+    let size = bytes.len();
+    let number = columns.number;
+    let place = columns.place;
+    println!(rt; "{group}{size} bytes: {number} {place}")
 }
 
-fn features(count: u32, last: &[u8]) {
+fn features(rt: &impl Print, count: u32, last: &[u8]) -> io::Result<()> {
     let mut out = room();
     let f = push(&mut out, 0, b"L 4000000\n");
     let lines = push_lines(&mut out, f, b"F 2 ", 1000000, count, b" 0\n");
     let end = push(&mut out, lines, last);
     let size = push_trailer(&mut out, end, f, f, f, f, end);
-    show(b"F, ", &out[..size]);
+    show(rt, "F, ", &out[..size])
 }
 
 // A sheet of nearly as many bytes as may be, in which `longer` of the points have one digit more.
-fn crowded(longer: u32) {
+fn crowded(rt: &impl Print, longer: u32) -> io::Result<()> {
     if longer > 512 {
-        return;
+        return Ok(());
     }
     let mut out = room();
     let p = push(&mut out, 0, b"L 4000000\n");
@@ -50,19 +47,20 @@ fn crowded(longer: u32) {
         b" 4000000 -10000000\n",
     );
     let size = push_trailer(&mut out, end, p, f, f, f, s);
-    show(b"P F S, ", &out[..size]);
+    show(rt, "P F S, ", &out[..size])
 }
 
-fn main() {
-    show(b"", b"");
-    show(b"", b"\n");
-    features(1024, b"");
-    features(1024, b"F 2 4000000 0\n");
-    features(1024, b"F 32 4000001 0\n");
-    features(1024, b"F 2 1 0\n");
-    features(1024, b"F 2 4000000\n");
-    features(1023, b"F 2 1000000 0\n");
-    crowded(0);
-    crowded(473);
-    crowded(474);
+fn main(rt: HostRuntime) -> io::Result<()> {
+    show(&rt, "", b"")?;
+    show(&rt, "", b"\n")?;
+    features(&rt, 1024, b"")?;
+    features(&rt, 1024, b"F 2 4000000 0\n")?;
+    features(&rt, 1024, b"F 32 4000001 0\n")?;
+    features(&rt, 1024, b"F 2 1 0\n")?;
+    features(&rt, 1024, b"F 2 4000000\n")?;
+    features(&rt, 1023, b"F 2 1000000 0\n")?;
+    crowded(&rt, 0)?;
+    crowded(&rt, 473)?;
+    crowded(&rt, 474)?;
+    Ok(())
 }
