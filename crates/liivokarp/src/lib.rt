@@ -53,9 +53,9 @@ fn done(score: i64, count: usize) -> Reply
 }
 
 // The tables that the engine makes of the sheet that the columns hold.
-fn tables_of(columns: Columns) -> Prepared
-    requires { HeldSheet columns }
-    ensures { (sheet : Sheet) → HoldsSheet sheet columns → Ready sheet columns result }
+fn tables_of(columns: &Columns) -> Prepared
+    requires { HeldSheet columns.now }
+    ensures { (sheet : Sheet) → HoldsSheet sheet columns.now → Ready sheet columns.now result }
 {
     engine::prepare(
         &columns.function,
@@ -78,7 +78,7 @@ fn best_of(columns: Columns, chain: &mut [u32]) -> Found
     requires room { columns.features + 2 ≤ length chain.old }
     ensures { (sheet : Sheet) → HoldsSheet sheet columns → Answers (steps sheet) (end_number sheet) chain.old result chain.new }
 {
-    let tables = tables_of(columns);
+    let tables = tables_of(&columns);
     engine::best_chain(
         &columns.kind,
         &columns.position,
@@ -121,7 +121,7 @@ fn verdict_of(columns: Columns, chain: &[u32]) -> Verdict
     requires { HeldSheet columns }
     ensures { (sheet : Sheet) → HoldsSheet sheet columns → Judged (steps sheet) (end_number sheet) chain.now result }
 {
-    let tables = tables_of(columns);
+    let tables = tables_of(&columns);
     judge(
         &columns.kind,
         &columns.position,
