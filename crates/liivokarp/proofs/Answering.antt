@@ -1,5 +1,5 @@
 -- Each answer of the parts below meets the row of the table of replies that it is given for.
-use mathlib.Core.Path.{◌≡◌, refl, sym, ap, ◌∙◌}
+use mathlib.Core.Path.{◌≡◌, refl, ap, ◌∙◌}
 use mathlib.Core.List.{List, ◌++◌}
 use Prim.Native.Nat.{ℕ, ◌+◌, ◌≤◌, ◌<◌}
 use native.Mathlib.Omega.{arith}
@@ -8,16 +8,15 @@ use lib.ListN.{length, drop}
 use Rattle.gaze.specs.declared.Verdict.{Verdict}
 use Rattle.gaze.specs.declared.Verdict.TheVariants.{NoChain, Breaks, Scores}
 use Rattle.gaze.specs.Chain.{Judged}
-use Rattle.gaze.specs.Sheet.{Sheet, end_number}
+use Rattle.gaze.specs.Sheet.{end_number}
 use Rattle.gaze.specs.Step.{steps}
 use Rattle.chains.specs.declared.Found.{Found}
 use Rattle.chains.specs.declared.Found.TheVariants.{Best, Nothing}
 use Rattle.chains.specs.Answer.{Answers}
 use Rattle.sheet.specs.declared.Columns.{Columns}
-use Rattle.sheet.specs.Reading.{reading, accepted}
 use Rattle.sheet.proofs.Outcomes.{Accepted}
 use Rattle.liivokarp.specs.declared.Reply.{Reply}
-use Rattle.liivokarp.specs.Replies.{refusal, done, candidates_of, Assembles, no_room, no_structure, assembled, ScoresChain, no_chain, breaks, scored}
+use Rattle.liivokarp.specs.Replies.{refusal, done, Assembles, no_room, no_structure, assembled, ScoresChain, no_chain, breaks, scored}
 use Rattle.liivokarp.specs.Held.{HoldsSheet, HeldSheet, found_reply, verdict_reply}
 
 module _ {bytes : List ℕ} {c : Columns} (a : Accepted bytes c) where

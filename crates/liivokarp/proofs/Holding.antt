@@ -1,9 +1,8 @@
 -- A sheet in the reader's columns is what the engine asks for; and what the reader's number says.
-use mathlib.Core.Path.{◌≡◌, sym}
-use Prim.Native.Nat.{ℕ, suc, ◌+◌, ◌≤◌}
+use mathlib.Core.Path.{sym}
+use Prim.Native.Nat.{◌+◌, ◌≤◌}
 use native.Mathlib.Omega.{arith}
-use lib.ListN.{length}
-use Rattle.gaze.specs.Sheet.{Sheet, end_number}
+use Rattle.gaze.specs.Sheet.{Sheet}
 use Rattle.sheet.specs.declared.Columns.{Columns}
 use Rattle.engine.specs.declared.Prepared.{Prepared}
 use Rattle.engine.specs.Prepared.{Parts, PreparedFor, ReadyFor}

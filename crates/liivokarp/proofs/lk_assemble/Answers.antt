@@ -2,7 +2,6 @@
 use mathlib.Core.Path.{refl}
 use native.Mathlib.Omega.{arith}
 use Rattle.sheet.proofs.Outcomes.{when_accepted, when_refused}
-use borrow.Author.Rules.{rules}
 use Rattle.liivokarp.specs.Replies.{sheet_refused}
 use Rattle.liivokarp.proofs.Holding.{features_few}
 use Rattle.liivokarp.proofs.Answering.{held_of, some_held, assembles_no_room, assembles_found}

@@ -2,7 +2,6 @@
 use Rattle.sheet.proofs.Outcomes.{when_accepted, when_refused}
 use Rattle.liivokarp.specs.Replies.{its_sheet_refused}
 use Rattle.liivokarp.proofs.Answering.{held_of, some_held, scores_verdict}
-use borrow.Author.Rules.{rules}
 use Rattle.liivokarp.proofs.lk_score_chain.Goals as goal
 
 pub returns-then-columns-ne0 : goal.returns-then-columns-ne0

@@ -1,7 +1,6 @@
 -- `verdict_of` is right because the engine is ready for the sheet that the columns hold.
 use native.Mathlib.Omega.{arith}
 use Rattle.liivokarp.proofs.Holding.{features_few}
-use borrow.Author.Rules.{rules}
 use Rattle.liivokarp.proofs.verdict_of.Goals as goal
 
 pub overflow_add-columns : goal.overflow_add-columns
