@@ -1,4 +1,4 @@
--- Laws of `record-fault` and `first-fault`: what is wrong with a record by the first check that it does not pass, the first fault record after record,
+-- Laws of `record_fault` and `first_fault`: what is wrong with a record by the first check that it does not pass, the first fault record after record,
 -- and what it says of the front of a list.
 use mathlib.Core.Path.{◌≡◌, refl, sym, ap, ap₂, ◌∙◌}
 use mathlib.Core.Bool.{Bool, true, false, cond}

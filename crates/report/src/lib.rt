@@ -32,7 +32,7 @@ fn read_some<R: Read>(reader: &mut R, bytes: &mut [u8]) -> io::Result<usize>
             }
         }
     }
-    Err(io::Error::from(ErrorKind::Interrupted))
+    reader.read(bytes)
 }
 
 // Reads until there is no more room or the reader is at its end, however short each read is, and says how many bytes there are.

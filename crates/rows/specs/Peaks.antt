@@ -1,5 +1,5 @@
 -- Method 2 over columns: the rate stands in the place of the score, so that three columns are enough. The largest number at a base is its peak.
--- That the peak of rated segments is the largest rate is `peak-rated`, in the proofs.
+-- That the peak of rated segments is the largest rate is `peak_rated`, in the proofs.
 use Rattle.std.specs.Prelude.{◌≡◌, cond, List, map, ℕ, ◌≤◌, ◌<◌, ℤ, pos}
 use Rattle.gaze.specs.declared.Segment.{Segment}
 use Rattle.gaze.specs.Lists.{keep}

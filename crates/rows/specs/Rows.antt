@@ -30,7 +30,7 @@ pub record Sound (most : ℕ) (starts ends : List ℕ) (scores : List ℤ) (lo h
   pub scores_long : hi ≤ length scores
   pub each : (i : ℕ) → lo ≤ i → i < hi → Good most (get_or starts i 0) (get_or ends i 0) (get_or scores i (pos 0))
 
--- By the method alone: `segment-score` of segments that are all chosen.
+-- By the method alone: `segment_score` of segments that are all chosen.
 abbrev pub scored : ℕ → ℕ → ℕ → List Segment → ℤ
 scored method s t segments = cond (eqb method 1) (largest_share s t segments) (summed_rates s t segments)
 
