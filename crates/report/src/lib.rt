@@ -18,6 +18,7 @@ pub fn sheet_room() -> [u8; 65537] {
 
 // One read, again where a signal interrupts it.
 fn read_some<R: Read>(reader: &mut R, bytes: &mut [u8]) -> io::Result<usize>
+    ensures same_length { length bytes.new ≡ length bytes.old }
     ensures within { IfOk result (λ n. IsPrefixLen n bytes.new) }
     ensures taken { IfOk result (λ n. Consumes (R.remaining reader.old) (R.remaining reader.new) (take n bytes.new)) }
     ensures all { IfOk result (λ n. n ≡ 0 → 0 < length bytes.new → IsAtEnd (R.remaining reader.new)) }
@@ -37,6 +38,7 @@ fn read_some<R: Read>(reader: &mut R, bytes: &mut [u8]) -> io::Result<usize>
 
 // Reads until there is no more room or the reader is at its end, however short each read is, and says how many bytes there are.
 pub fn read_full<R: Read>(reader: &mut R, bytes: &mut [u8]) -> io::Result<usize>
+    ensures same_length { length bytes.new ≡ length bytes.old }
     ensures within { IfOk result (λ n. IsPrefixLen n bytes.new) }
     ensures taken { IfOk result (λ n. Consumes (R.remaining reader.old) (R.remaining reader.new) (take n bytes.new)) }
     ensures all { IfOk result (λ n. n < length bytes.new → IsAtEnd (R.remaining reader.new)) }

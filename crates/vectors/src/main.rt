@@ -3,7 +3,7 @@
 
 #![tactic(auto)]
 
-ghost use Rattle.std.specs.Prelude.{◌≤◌, length, IfOk};
+ghost use Rattle.std.specs.Prelude.{◌≡◌, ◌≤◌, length, IfOk};
 ghost use Rattle.io.specs.Counts.{IsPrefixLen};
 
 use liivokarp::Reply;
@@ -258,7 +258,8 @@ fn lent_lists(rt: &impl Print, one: &[u8]) -> io::Result<()> {
 }
 
 fn read_file(rt: &impl Files, name: &str, bytes: &mut [u8]) -> io::Result<usize>
-    ensures { IfOk result (λ n. IsPrefixLen n bytes.new) }
+    ensures within { IfOk result (λ n. IsPrefixLen n bytes.new) }
+    ensures same_length { length bytes.new ≡ length bytes.old }
 {
     let mut file = fs::open(rt, name)?;
     report::read_full(&mut file, bytes)
