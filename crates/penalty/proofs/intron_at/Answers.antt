@@ -2,10 +2,6 @@
 use mathlib.Core.Path.{◌≡◌, ap, ◌∙◌}
 use Prim.Native.Nat.{ℕ, ◌≤◌, min}
 use native.Mathlib.Omega.{arith}
-use lib.IntN.{pos}
-use lib.ListN.{get_or}
-use mir.Syntax.{w64}
-use mir.Val.{to_z, of_z}
 use Rattle.gaze.specs.Penalty.{interpolated, intron_points, intron_penalty}
 use borrow.Author.Rules.{rules}
 use Rattle.penalty.proofs.intron_at.Goals as goal
@@ -15,6 +11,4 @@ unfolding intron_penalty
 from_the_last d h = let e : 1023 ≡ min d 1023 = omega arith in ap (interpolated intron_points) e
 
 pub returns-else-d-lt1023 : goal.returns-else-d-lt1023
-returns-else-d-lt1023 c =
-    let read : to_z w64 (of_z w64 (get_or c.args.intron.now 1023 (pos 0))) ≡ get_or c.args.intron.now 1023 (pos 0) = search rules in
-    read ∙ (c.requires.at 1023 (omega arith) ∙ from_the_last c.args.d (omega arith))
+returns-else-d-lt1023 c = search rules ∙ (c.requires.at 1023 (omega arith) ∙ from_the_last c.args.d (omega arith))
