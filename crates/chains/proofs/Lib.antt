@@ -1,5 +1,4 @@
 pub mod Choices
 pub mod Entries
 pub mod Traces
-pub mod Pairs
 pub mod Answering

@@ -1,2 +1,3 @@
 pub mod Tables
 pub mod Answer
+pub mod Within

@@ -1,74 +1,48 @@
--- What the columns of the search hold: which candidates are reached, their best totals, and the sources that these come from; and what the
--- functions over them ask and give.
-use Rattle.std.specs.Prelude.{◌≡◌, Bool, false, List, ℕ, ◌*◌, ◌^◌, ◌≤◌, ◌<◌, T, ℤ, pos, nat_abs, length, get_or}
+-- What the table of the search holds: for each candidate, whether it is reached, by which source, and the best total.
+use Rattle.std.specs.Prelude.{◌≡◌, Bool, true, false, cond, List, ℕ, ◌*◌, ◌^◌, ◌≤◌, ◌<◌, ℤ, pos, nat_abs, length, get_or, Option, Some, None, IfSome}
 use Rattle.gaze.specs.Chain.{Steps}
-use Rattle.gaze.proofs.Picked.{Picked}
-use Rattle.gaze.proofs.Table.{Table, Filled, Traced, trace_back}
+use Rattle.gaze.proofs.Table.{Table, Filled}
+use Rattle.chains.specs.declared.Reached.{Reached}
 
-abbrev pub flags : List Bool → ℕ → Bool
-flags l s = get_or l s false
+-- A step as the rows hold it: what it gains, if it is legal.
+abbrev pub step : Steps → ℕ → ℕ → Option ℤ
+step m s t = cond (m.legal s t) (Some (m.gain s t)) None
 
-abbrev pub totals : List ℤ → ℕ → ℤ
-totals l s = get_or l s (pos 0)
+abbrev pub is_reached : Option Reached → Bool
+is_reached None = false
+is_reached (Some r) = true
 
-abbrev pub numbers : List ℕ → ℕ → ℕ
-numbers l s = get_or l s 0
+abbrev pub total_of : Option Reached → ℤ
+total_of None = pos 0
+total_of (Some r) = r.total
 
-abbrev pub table : List Bool → List ℤ → List ℕ → Table
-table reach value from = record { reach = flags reach; value = totals value; from = numbers from }
+abbrev pub source_of : Option Reached → ℕ
+source_of None = 0
+source_of (Some r) = r.source
 
--- ---- one target: the choice among its sources
--- The steps into one target, as two rows hold them.
-abbrev pub row_steps : List Bool → List ℤ → Steps
-row_steps legals gains = record { legal = λ s t. get_or legals s false; gain = λ s t. get_or gains s (pos 0) }
+abbrev pub table : List (Option Reached) → Table
+table entries =
+    record {
+      reach = λ s. is_reached (get_or entries s None);
+      value = λ s. total_of (get_or entries s None);
+      from = λ s. source_of (get_or entries s None);
+    }
 
--- The entries below e stand. Each gain is at most 2^50 in size, and so each total is at most as many times that as there are steps.
-pub record Sources (e : ℕ) (legals : List Bool) (gains : List ℤ) (reach : List Bool) (value : List ℤ) : Type 0 where
-  pub few : e ≤ 1025
-  pub legals_long : e ≤ length legals
-  pub gains_long : e ≤ length gains
-  pub reach_long : e ≤ length reach
-  pub value_long : e ≤ length value
-  pub gain_size : (s : ℕ) → s < e → T (flags legals s) → nat_abs (totals gains s) ≤ 2 ^ 50
-  pub value_size : (s : ℕ) → s < e → nat_abs (totals value s) ≤ s * 2 ^ 50
+-- The row holds the steps of the model into e from the candidates before it.
+pub record Row (m : Steps) (e : ℕ) (steps : List (Option ℤ)) : Type 0 where
+  pub long : length steps ≡ e
+  pub is : (s : ℕ) → s < e → get_or steps s None ≡ step m s e
 
--- The choice for the target e among the sources below i.
-pub record Choosing (m : Steps) (e i : ℕ) (reach : List Bool) (value : List ℤ) (found : Bool) (best : ℤ) (from : ℕ) : Type 0 where
-  pub picked : Picked m (flags reach) (totals value) e 0 i found best from
-  pub size : nat_abs best ≤ e * 2 ^ 50
-  pub from_in : from ≤ e
+-- The entries of the first candidates are filled in. Each gain is at most 2^50 in size, and so each total is at most as many times that as there are steps.
+pub record Searched (m : Steps) (entries : List (Option Reached)) : Type 0 where
+  pub filled : Filled m (table entries) (length entries)
+  pub total_size : (s : ℕ) → s < length entries → nat_abs (total_of (get_or entries s None)) ≤ s * 2 ^ 50
 
--- ---- one target after the other
--- The rows hold the steps of the model into e, whose gains are at most 2^50 in size.
-pub record Row (m : Steps) (e : ℕ) (legals : List Bool) (gains : List ℤ) : Type 0 where
-  pub legal : (s : ℕ) → s < e → flags legals s ≡ m.legal s e
-  pub gain : (s : ℕ) → s < e → T (flags legals s) → totals gains s ≡ m.gain s e
-
--- The entries below k are filled in.
-pub record Searched (m : Steps) (k : ℕ) (reach : List Bool) (value : List ℤ) (from : List ℕ) : Type 0 where
-  pub filled : Filled m (table reach value from) k
-  pub value_size : (s : ℕ) → s < k → nat_abs (totals value s) ≤ s * 2 ^ 50
-
--- There is room for the entry of e.
-pub record Room (e : ℕ) (reach : List Bool) (value : List ℤ) (from : List ℕ) : Type 0 where
-  pub reach_long : e < length reach
-  pub value_long : e < length value
-  pub from_long : e < length from
-
--- The columns are as long as they were.
-pub record SameLengths (reach₀ reach : List Bool) (value₀ value : List ℤ) (from₀ from : List ℕ) : Type 0 where
-  pub reach_same : length reach ≡ length reach₀
-  pub value_same : length value ≡ length value₀
-  pub from_same : length from ≡ length from₀
-
--- ---- the trace
--- The candidates from e back to 0.
-abbrev pub way_back : List ℕ → ℕ → List ℕ
-way_back from e = trace_back (numbers from) e e
-
--- Sources that lead from e to 0, and room for the list.
-pub record Tracing (e : ℕ) (from : List ℕ) (room : ℕ) : Type 0 where
-  pub leads : Traced (numbers from) e (way_back from e)
-  pub from_long : e < length from
-  pub fits : e < room
-  pub small : e < 2 ^ 32
+-- Some entries are filled in, and a row holds the steps of the same model to the next candidate, whose gains are at most 2^50 in size.
+pub record Going (steps : List (Option ℤ)) (entries : List (Option Reached)) : Type 0 where
+  pub model : Steps
+  pub row : Row model (length entries) steps
+  pub searched : Searched model entries
+  pub some : 0 < length entries
+  pub few : length entries ≤ 1025
+  pub gain_size : (s : ℕ) → s < length entries → IfSome (get_or steps s None) (λ z. nat_abs z ≤ 2 ^ 50)

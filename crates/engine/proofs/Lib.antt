@@ -1,5 +1,2 @@
-pub mod Turns
-pub mod Grouped
-pub mod Preparing
-pub mod Walking
-pub mod Summing
+mod Searching
+mod Walking

@@ -1,3 +1,0 @@
-pub mod Search
-pub mod Prepared
-pub mod Asked

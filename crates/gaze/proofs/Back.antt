@@ -1,7 +1,7 @@
 -- A valid chain read back from its end, one candidate at a time, and the best of these.
 use mathlib.Core.Path.{◌≡◌, refl, sym, ap, ◌∙◌, subst}
-use mathlib.Core.Logic.{◌⊎◌, inl, inr, ⊎_map}
-use mathlib.Core.Option.{Option, none, some}
+use mathlib.Core.Logic.{◌⊎◌, ⊎_map}
+use Rattle.std.specs.Prelude.{None, Some}
 use mathlib.Core.List.{List, [], ◌∷◌, reverse, reverse_aux, reverse-reverse}
 use Prim.Native.Nat.{ℕ, zero, ◌<◌}
 use native.Mathlib.Omega.{arith}
@@ -9,7 +9,7 @@ use lib.Dec.{T}
 use lib.IntN.{ℤ, pos, ◌+ℤ◌, +ℤ_assoc, +ℤ_idl, +ℤ_idr}
 use lib.Signed.{◌≤ℤ◌}
 use Rattle.gaze.specs.Lists.{Adjacent}
-use Rattle.gaze.specs.Chain.{Steps, first, last, Chain, Valid, total, Later, here, there, Best}
+use Rattle.gaze.specs.Chain.{Steps, first, last, Valid, total, Later, here, Best}
 
 -- `Back m e l`: l is a valid chain that ends at e, written from e back to 0.
 pub data Back (m : Steps) : ℕ → List ℕ → Type 0 where
@@ -28,31 +28,31 @@ pub record BackBest (m : Steps) (e : ℕ) (l : List ℕ) : Type 0 where
 
 module _ (m : Steps) where
   -- ---- a chain, read back
-  unroll : (e s : ℕ) (acc c : List ℕ) → Back m s (s ∷ acc) → last (s ∷ c) ≡ some e → Adjacent (λ a b. a < b) (s ∷ c)
+  unroll : (e s : ℕ) (acc c : List ℕ) → Back m s (s ∷ acc) → last (s ∷ c) ≡ Some e → Adjacent (λ a b. a < b) (s ∷ c)
       → Adjacent (λ a b. T (m.legal a b)) (s ∷ c) → Back m e (reverse_aux c (s ∷ acc))
   unfolding last Adjacent
   unroll e s acc [] b h r g = subst (λ (x : ℕ). Back m x (s ∷ acc)) (cc) b
   unroll e s acc (t ∷ c) b h r g = unroll e t (s ∷ acc) c (step r.0 g.0 b) h r.1 g.1
 
-  from_zero : (e a : ℕ) (c : List ℕ) → zero ≡ a → last (a ∷ c) ≡ some e → Adjacent (λ a b. a < b) (a ∷ c)
+  from_zero : (e a : ℕ) (c : List ℕ) → zero ≡ a → last (a ∷ c) ≡ Some e → Adjacent (λ a b. a < b) (a ∷ c)
       → Adjacent (λ a b. T (m.legal a b)) (a ∷ c) → Back m e (reverse_aux c (a ∷ []))
   from_zero e a c z h r g = unroll e a [] c (subst (λ (x : ℕ). Back m x (x ∷ [])) z begin) h r g
 
   pub valid→back : (e : ℕ) (c : List ℕ) → Valid m e c → Back m e (reverse c)
   unfolding first
   valid→back e [] v =
-      let n : none ≡ some zero = v.chain.starts in
+      let n : None ≡ Some zero = v.chain.starts in
       let z : ◌≡◌ {A = ℕ} 0 1 = cc in
       absurd (zero_one z)
     where
       zero_one : ◌≡◌ {A = ℕ} 0 1 → ⊥
       zero_one z = omega arith
   valid→back e (a ∷ c) v =
-      let n : some a ≡ some zero = v.chain.starts in
+      let n : Some a ≡ Some zero = v.chain.starts in
       from_zero e a c (cc) v.chain.ends v.chain.rises v.legal
 
   -- ---- and back again
-  rewind : {s : ℕ} {l : List ℕ} (e : ℕ) (f : List ℕ) → Back m s l → last (s ∷ f) ≡ some e → Adjacent (λ a b. a < b) (s ∷ f)
+  rewind : {s : ℕ} {l : List ℕ} (e : ℕ) (f : List ℕ) → Back m s l → last (s ∷ f) ≡ Some e → Adjacent (λ a b. a < b) (s ∷ f)
       → Adjacent (λ a b. T (m.legal a b)) (s ∷ f) → Valid m e (reverse_aux l f)
   unfolding first last Adjacent
   rewind e f begin h r g =
@@ -78,7 +78,7 @@ module _ (m : Steps) where
   pub total_chain : (c : List ℕ) → total m c ≡ back_total m (reverse c)
   total_chain c = ap (total m) (sym (reverse-reverse c)) ∙ total_back (reverse c)
 
-  -- ---- so the best chain, read back, is the best of these
+  -- ---- so the best of these is the best chain, read back
   pub back_best : (e : ℕ) (l : List ℕ) → BackBest m e l → Best m e (reverse l)
   back_best e l b =
       record {
@@ -90,19 +90,6 @@ module _ (m : Steps) where
             (λ (h : reverse d ≡ l). sym (reverse-reverse d) ∙ ap reverse h)
             (λ (h : Later l (reverse d)). rw reverse-reverse h)
             (b.latest (reverse d) (valid→back e d v) even);
-      }
-
-  pub best_back : (e : ℕ) (c : List ℕ) → Best m e c → BackBest m e (reverse c)
-  best_back e c b =
-      record {
-        back = valid→back e c b.valid;
-        most = λ k v. rw (← total_back k, ← total_chain c) (b.most (reverse k) (back→valid e k v));
-        latest = λ k v same.
-            let even : total m (reverse k) ≡ total m c = total_back k ∙ (same ∙ sym (total_chain c)) in
-            ⊎_map
-            (λ (h : reverse k ≡ c). sym (reverse-reverse k) ∙ ap reverse h)
-            (λ (h : Later (reverse c) (reverse (reverse k))). rw reverse-reverse at h)
-            (b.latest (reverse k) (back→valid e k v) even);
       }
 
   -- ---- small facts

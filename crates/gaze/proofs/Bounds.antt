@@ -1,15 +1,15 @@
 -- Every gain of a sheet whose fields are in range is at most 2^50 in size, so the gains of the 1,025 steps that a chain can have add up
 -- within 64 bits. The bounds leave room: they hold too where a penalty goes on rising beyond its last point, and whoever enters a maximum.
-use mathlib.Core.Path.{◌≡◌, refl, sym, ap, ◌∙◌, subst}
-use mathlib.Core.Logic.{◌⊎◌, inl, inr}
-use mathlib.Core.Bool.{Bool, true, false, cond, ◌&&◌}
-use mathlib.Core.Option.{Option, none, some}
+use mathlib.Core.Path.{◌≡◌, refl, sym, subst}
+use mathlib.Core.Logic.{inl, inr}
+use mathlib.Core.Bool.{Bool, true, false, cond}
+use Rattle.std.specs.Prelude.{Option, None, Some}
 use mathlib.Core.List.{List, [], ◌∷◌, map, foldl}
-use Prim.Native.Nat.{ℕ, zero, suc, ◌+◌, ◌-◌, ◌*◌, ◌^◌, ◌≤◌, ◌<◌, min, max}
+use Prim.Native.Nat.{ℕ, zero, suc, ◌+◌, ◌-◌, ◌*◌, ◌^◌, ◌≤◌, min, max}
 use native.Mathlib.Nat.{mul-le-mul_right, suc-mul}
 use native.Mathlib.Omega.{arith}
 use lib.Dec.{T, leb, eqb, eqb→eq}
-use lib.IntN.{ℤ, pos, nat_abs, ◌+ℤ◌, ◌-ℤ◌, ◌*ℤ◌}
+use lib.IntN.{ℤ, pos, nat_abs, ◌-ℤ◌, ◌*ℤ◌}
 use lib.ListN.{length}
 use Rattle.whole.specs.Whole.{floor_of, larger_of, sum_of}
 use Rattle.whole.proofs.Size.{abs_sum, abs_dif, abs_mul_le, abs_larger}
@@ -19,7 +19,7 @@ use Rattle.gaze.specs.declared.Rule.{Rule}
 use Rattle.gaze.specs.declared.Qualifier.{Qualifier}
 use Rattle.gaze.specs.declared.Feature.{Feature}
 use Rattle.gaze.specs.declared.Segment.{Segment}
-use Rattle.gaze.specs.Lists.{Each, Adjacent, keep}
+use Rattle.gaze.specs.Lists.{Each, keep}
 use Rattle.gaze.specs.Sheet.{Sheet, candidate}
 use Rattle.gaze.specs.Penalty.{on_line, beyond, past, interpolated, intron_points, intron_penalty, points_of, penalty}
 use Rattle.gaze.specs.SegmentScore.{chosen, overlap, size, enters, largest, share, largest_share, rate, holds, rate_at, largest_rate, sum_over, summed_rates, segment_score}
@@ -119,16 +119,16 @@ shares_size a b l e =
     largest_size 40000000000000 (map (share a b) (keep (enters a b) l))
     (each_mapped Short SegmentsSize (share a b) (keep (enters a b) l) (share_size a b) (each_kept Short (enters a b) l e))
 
-rate_size : (x : ℕ) (g : Segment) → Short g → nat_abs (rate_at x g) ≤ 10000000000
+pub rate_size : (x : ℕ) (g : Segment) → Thousandths g.score → nat_abs (rate_at x g) ≤ 10000000000
 rate_size x g r =
     by_test (holds x g) (rate g) (pos 0) 10000000000
-    (omega (arith, abs_floor (g.score *ℤ pos 1000) (size g), abs_mul_le g.score 1000 10000000 1000 r.score (omega arith)))
+    (omega (arith, abs_floor (g.score *ℤ pos 1000) (size g), abs_mul_le g.score 1000 10000000 1000 r (omega arith)))
     (omega arith)
 
 largest_rate_size : (l : List Segment) (x : ℕ) → Each Short l → nat_abs (largest_rate l x) ≤ 10000000000
 largest_rate_size l x e =
     largest_size 10000000000 (map (rate_at x) (keep (enters x x) l))
-    (each_mapped Short (λ z. nat_abs z ≤ 10000000000) (rate_at x) (keep (enters x x) l) (rate_size x) (each_kept Short (enters x x) l e))
+    (each_mapped Short (λ z. nat_abs z ≤ 10000000000) (rate_at x) (keep (enters x x) l) (λ g r. rate_size x g r.score) (each_kept Short (enters x x) l e))
 
 pub sum_over_size : (f : ℕ → ℤ) (a n b : ℕ) → ((x : ℕ) → nat_abs (f x) ≤ b) → nat_abs (sum_over f a n) ≤ n * b
 unfolding sum_over
@@ -243,5 +243,5 @@ module _ (sheet : Sheet) (r : InRange sheet) where
   gain_size a b = go (rule_of sheet.rules (candidate sheet a) (candidate sheet b))
     where
       go : (o : Option Rule) → nat_abs (by_rule o (λ rule. gained sheet rule (candidate sheet a) (candidate sheet b)) (pos 0)) ≤ 2 ^ 50
-      go none = omega arith
-      go (some rule) = gained_size rule (candidate sheet a) (candidate sheet b) (placed sheet r a) (placed sheet r b)
+      go None = omega arith
+      go (Some rule) = gained_size rule (candidate sheet a) (candidate sheet b) (placed sheet r a) (placed sheet r b)

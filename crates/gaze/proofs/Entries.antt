@@ -1,49 +1,52 @@
 -- A chain by its entries: what their order says of their size, the score of a front, and validity step by step.
 use mathlib.Core.Path.{◌≡◌, refl, sym, ap, ◌∙◌, subst}
-use mathlib.Core.Option.{Option, none, some}
+use Rattle.std.specs.Prelude.{Some}
 use mathlib.Core.List.{List, [], ◌∷◌}
 use Prim.Native.Nat.{ℕ, zero, suc, ◌+◌, ◌-◌, ◌≤◌, ◌<◌}
+use native.Mathlib.Numerals.{add-one}
 use native.Mathlib.Omega.{arith}
 use lib.Dec.{T}
 use lib.IntN.{ℤ, ◌+ℤ◌, +ℤ_assoc, +ℤ_idl, +ℤ_idr}
 use lib.ListN.{length, get_or, take}
+use Rattle.std.specs.List.Sorted.{IsStrictlyIncreasing}
 use Rattle.gaze.specs.Chain.{Steps, first, last, Chain, Valid, total, legal_step}
+use Rattle.gaze.proofs.Tests.{none_below}
 use Rattle.gaze.proofs.ListLaws.{adjacent_of, adjacent_at}
-
-none_below : {n : ℕ} → n < 0 → ⊥
-none_below h = omega arith
 
 none_past : {n : ℕ} → suc n < 1 → ⊥
 none_past h = omega arith
 
 -- ---- the ends, by their places
-first_is : (c : List ℕ) → 0 < length c → first c ≡ some (get_or c 0 0)
+first_is : (c : List ℕ) → 0 < length c → first c ≡ Some (get_or c 0 0)
 unfolding first
 first_is [] h = absurd (none_below h)
 first_is (a ∷ l) h = refl
 
-last_is : (c : List ℕ) → 0 < length c → last c ≡ some (get_or c (length c - 1) 0)
+last_is : (c : List ℕ) → 0 < length c → last c ≡ Some (get_or c (length c - 1) 0)
 unfolding last
 last_is [] h = absurd (none_below h)
 last_is (a ∷ []) h = refl
-last_is (a ∷ b ∷ l) h = last_is (b ∷ l) (omega arith) ∙ ap (λ (k : ℕ). some (get_or (a ∷ b ∷ l) k 0)) (up (length l))
+last_is (a ∷ b ∷ l) h = last_is (b ∷ l) (omega arith) ∙ ap (λ (k : ℕ). Some (get_or (a ∷ b ∷ l) k 0)) (up (length l))
   where
     up : (n : ℕ) → suc (suc n - 1) ≡ suc (suc n) - 1
     up n = omega arith
 
-some_first : (c : List ℕ) → first c ≡ some 0 → 0 < length c
+some_first : (c : List ℕ) → first c ≡ Some 0 → 0 < length c
 unfolding first
 some_first [] h = let z : ◌≡◌ {A = ℕ} 0 1 = cc in omega arith
 some_first (a ∷ l) h = omega arith
 
-some_inj : {a b : ℕ} → some a ≡ some b → a ≡ b
+some_inj : {a b : ℕ} → Some a ≡ Some b → a ≡ b
 some_inj p = cc
 
 module _ (e : ℕ) (c : List ℕ) where
-  pub chain_of : 0 < length c → get_or c 0 0 ≡ 0 → get_or c (length c - 1) 0 ≡ e
-      → ((i : ℕ) → suc i < length c → get_or c i 0 < get_or c (suc i) 0) → Chain e c
+  pub chain_of : 0 < length c → get_or c 0 0 ≡ 0 → get_or c (length c - 1) 0 ≡ e → IsStrictlyIncreasing c → Chain e c
   chain_of n a b r =
-      record { starts = first_is c n ∙ ap some a; ends = last_is c n ∙ ap some b; rises = adjacent_of (λ a b. a < b) 0 c r }
+      record {
+        starts = first_is c n ∙ ap Some a;
+        ends = last_is c n ∙ ap Some b;
+        rises = adjacent_of (λ a b. a < b) 0 c (λ i h. rw add-one at (r i (omega arith)));
+      }
 
   module _ (p : Chain e c) where
     pub not_empty : 0 < length c
@@ -55,8 +58,8 @@ module _ (e : ℕ) (c : List ℕ) where
     pub chain_last : get_or c (length c - 1) 0 ≡ e
     chain_last = some_inj (sym (last_is c not_empty) ∙ p.ends)
 
-    pub chain_rises : (i : ℕ) → suc i < length c → get_or c i 0 < get_or c (suc i) 0
-    chain_rises i h = adjacent_at (λ a b. a < b) 0 c p.rises i h
+    pub chain_rises : IsStrictlyIncreasing c
+    chain_rises i h = rw add-one (adjacent_at (λ a b. a < b) 0 c p.rises i (omega arith))
 
     -- ---- a rising list leaves room
     rise_by : (i n : ℕ) → i + n < length c → get_or c i 0 + n ≤ get_or c (i + n) 0
@@ -69,7 +72,7 @@ module _ (e : ℕ) (c : List ℕ) where
         let b = chain_rises (i + n) (omega arith) in
         rw (suc_right i n) (omega arith)
       where
-        suc_right : (i n : ℕ) → i + suc n ≡ suc (i + n)
+        suc_right : (i n : ℕ) → i + suc n ≡ i + n + 1
         suc_right i n = omega arith
 
     pub entry_from : (i : ℕ) → i < length c → i ≤ get_or c i 0

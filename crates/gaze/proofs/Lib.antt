@@ -1,6 +1,7 @@
 pub mod Tests
 pub mod ListLaws
 pub mod OrderLaws
+pub mod Pairs
 pub mod Entries
 pub mod Back
 pub mod Picked

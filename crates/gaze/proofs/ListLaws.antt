@@ -2,17 +2,14 @@
 use mathlib.Core.Logic.{⊎_elim}
 use mathlib.Core.Path.{◌≡◌, refl, sym, ap, ap₂, ◌∙◌}
 use mathlib.Core.Bool.{Bool, true, false, cond, ◌&&◌, ◌||◌}
-use mathlib.Core.List.{List, [], ◌∷◌, ◌++◌, append-nil, append_assoc, map, map-append}
+use mathlib.Core.List.{List, [], ◌∷◌, ◌++◌, append-nil, map, map-append}
 use Prim.Native.Nat.{ℕ, zero, suc, ◌+◌, ◌-◌, ◌<◌, ◌≤◌}
 use native.Mathlib.Nat.{eq-or-lt_of_le}
 use native.Mathlib.Omega.{arith}
 use lib.ListN.{length, get_or, replicate, length-append, length-replicate, get_or-replicate, get_or-append, get_or-eq_default}
 use lib.Seq.{get_or_at}
 use Rattle.gaze.specs.Lists.{Each, Adjacent, keep, listed, some_of}
-use Rattle.gaze.proofs.Tests.{at_or_below}
-
-none_below : {n : ℕ} → n < 0 → ⊥
-none_below h = omega arith
+use Rattle.gaze.proofs.Tests.{none_below, at_or_below}
 
 -- ---- each entry, by its place; d stands past the end
 pub each_of : {A : Type 0} (P : A → Type 0) (d : A) (l : List A) → ((i : ℕ) → i < length l → P (get_or l i d)) → Each P l
@@ -166,29 +163,7 @@ keep_twice p q (a ∷ l) = rw (← keep_twice p q l) (go (p a))
     go true = refl
     go false = refl
 
--- a test that a function does not change
-pub keep_map : {A B : Type 0} (f : A → B) (p : B → Bool) (q : A → Bool) (l : List A) → ((a : A) → p (f a) ≡ q a) → keep p (map f l) ≡ map f (keep q l)
-unfolding keep
-keep_map f p q [] h = refl
-keep_map f p q (a ∷ l) h = rw (h a, keep_map f p q l h) (go (q a))
-  where
-    go : (b : Bool) → cond b (f a ∷ map f (keep q l)) (map f (keep q l)) ≡ map f (cond b (a ∷ keep q l) (keep q l))
-    go true = refl
-    go false = refl
-
 -- ---- the list that a function gives
-pub listed_more : {A : Type 0} (f : ℕ → A) (lo i : ℕ) → lo ≤ i → listed f lo (i + 1 - lo) ≡ listed f lo (i - lo) ++ (f i ∷ [])
-unfolding listed
-listed_more f lo i h =
-    let n : i + 1 - lo ≡ suc (i - lo) = omega arith in
-    let e : lo + (i - lo) ≡ i = omega arith in
-    ap (listed f lo) n ∙ ap (λ (j : ℕ). listed f lo (i - lo) ++ (f j ∷ [])) e
-
-pub listed_none : {A : Type 0} (f : ℕ → A) (lo i : ℕ) → i ≡ lo → listed f lo (i - lo) ≡ []
-unfolding listed
-listed_none f lo i h =
-    let n : i - lo ≡ 0 = omega arith in
-    ap (listed f lo) n
 
 pub listed_length : {A : Type 0} (f : ℕ → A) (lo n : ℕ) → length (listed f lo n) ≡ n
 unfolding listed
@@ -225,24 +200,6 @@ listed_same f g lo zero h = refl
 listed_same f g lo (suc n) h =
     ap₂ ◌++◌ (listed_same f g lo n (λ i l u. h i l (omega arith))) (ap (λ (a : _). a ∷ []) (h (lo + n) (omega arith) (omega arith)))
 
--- in two parts
-pub listed_joined : {A : Type 0} (f : ℕ → A) (lo m n : ℕ) → listed f lo (m + n) ≡ listed f lo m ++ listed f (lo + m) n
-unfolding listed
-listed_joined f lo m zero = rw (zero_right m) (sym (append-nil (listed f lo m)))
-  where
-    zero_right : (m : ℕ) → m + 0 ≡ m
-    zero_right m = omega arith
-listed_joined f lo m (suc n) =
-    ap (listed f lo) (suc_right m n)
-    ∙ (ap₂ (λ (l : List _) (i : ℕ). l ++ (f i ∷ [])) (listed_joined f lo m n) (regroup lo m n)
-    ∙ append_assoc (listed f lo m) (listed f (lo + m) n) (f (lo + m + n) ∷ []))
-  where
-    suc_right : (m n : ℕ) → m + suc n ≡ suc (m + n)
-    suc_right m n = omega arith
-
-    regroup : (lo m n : ℕ) → lo + (m + n) ≡ lo + m + n
-    regroup lo m n = omega arith
-
 -- the first of them apart
 pub listed_first : {A : Type 0} (f : ℕ → A) (lo n : ℕ) → listed f lo (suc n) ≡ f lo ∷ listed f (suc lo) n
 unfolding listed
@@ -254,68 +211,6 @@ listed_first f lo (suc n) = rw (listed_first f lo n, suc_right lo n) refl
   where
     suc_right : (m n : ℕ) → m + suc n ≡ suc m + n
     suc_right m n = omega arith
-
--- where all of them pass a test, and where none does
-pub listed_kept : {A : Type 0} (test : A → Bool) (f : ℕ → A) (lo n : ℕ) → ((i : ℕ) → lo ≤ i → i < lo + n → test (f i) ≡ true)
-    → keep test (listed f lo n) ≡ listed f lo n
-unfolding listed keep
-listed_kept test f lo zero h = refl
-listed_kept test f lo (suc n) h =
-    keep_in test (listed f lo n) (f (lo + n)) (h (lo + n) (omega arith) (omega arith))
-    ∙ ap (λ (l : List _). l ++ (f (lo + n) ∷ [])) (listed_kept test f lo n (λ i l u. h i l (omega arith)))
-
-pub listed_dropped : {A : Type 0} (test : A → Bool) (f : ℕ → A) (lo n : ℕ) → ((i : ℕ) → lo ≤ i → i < lo + n → test (f i) ≡ false)
-    → keep test (listed f lo n) ≡ []
-unfolding listed keep
-listed_dropped test f lo zero h = refl
-listed_dropped test f lo (suc n) h =
-    keep_out test (listed f lo n) (f (lo + n)) (h (lo + n) (omega arith) (omega arith))
-    ∙ listed_dropped test f lo n (λ i l u. h i l (omega arith))
-
-keep_joined : {A : Type 0} (test : A → Bool) (f : ℕ → A) (k m n : ℕ) → n ≡ k + m
-    → keep test (listed f 0 n) ≡ keep test (listed f 0 k) ++ keep test (listed f k m)
-keep_joined test f k m n e =
-    let zero_left : 0 + k ≡ k = omega arith in
-    ap (λ (i : ℕ). keep test (listed f 0 i)) e
-    ∙ (ap (keep test) (listed_joined f 0 k m ∙ ap (λ (i : ℕ). listed f 0 k ++ listed f i m) zero_left)
-    ∙ keep_append test (listed f 0 k) (listed f k m))
-
--- where those from lo to hi pass it, and no others do
-pub listed_part : {A : Type 0} (test : A → Bool) (f : ℕ → A) (lo hi n : ℕ) → lo ≤ hi → hi ≤ n
-    → ((i : ℕ) → i < lo → test (f i) ≡ false)
-    → ((i : ℕ) → lo ≤ i → i < hi → test (f i) ≡ true)
-    → ((i : ℕ) → hi ≤ i → i < n → test (f i) ≡ false)
-    → keep test (listed f 0 n) ≡ listed f lo (hi - lo)
-listed_part test f lo hi n h k before within after =
-    let none_before = listed_dropped test f 0 lo (λ i l u. before i (omega arith)) in
-    let all_within = listed_kept test f lo (hi - lo) (λ i l u. within i l (omega arith)) in
-    let none_after = listed_dropped test f hi (n - hi) (λ i l u. after i l (omega arith)) in
-    keep_joined test f hi (n - hi) n (omega arith)
-    ∙ (ap₂ ◌++◌ (keep_joined test f lo (hi - lo) hi (omega arith) ∙ ap₂ ◌++◌ none_before all_within) none_after
-    ∙ append-nil (listed f lo (hi - lo)))
-
-pub each_of_listed : {A : Type 0} (P : A → Type 0) (f : ℕ → A) (lo n : ℕ) → Each P (listed f lo n) → (i : ℕ) → lo ≤ i → i < lo + n → P (f i)
-each_of_listed P f lo n p i l u =
-    let h : i - lo < n = omega arith in
-    let e : lo + (i - lo) ≡ i = omega arith in
-    rw (listed_at f lo n (f lo) (i - lo) h, e) at (each_at P (f lo) (listed f lo n) p (i - lo) (rw (listed_length f lo n) h))
-
--- ---- what holds of the entries of f 0 .. f (n - 1), by number
-module _ {A : Type 0} (f : ℕ → A) (n : ℕ) where
-  at_number : (i : ℕ) → i < n → get_or (listed f 0 n) i (f 0) ≡ f i
-  at_number i h = listed_at f 0 n (f 0) i h ∙ ap f (zero_left i)
-    where
-      zero_left : (i : ℕ) → 0 + i ≡ i
-      zero_left i = omega arith
-
-  pub listed_each : (P : A → Type 0) → Each P (listed f 0 n) → (i : ℕ) → i < n → P (f i)
-  listed_each P p i h = each_of_listed P f 0 n p i (omega arith) (omega arith)
-
-  pub listed_adjacent : (R : A → A → Type 0) → ((a b c : A) → R a b → R b c → R a c) → Adjacent R (listed f 0 n)
-      → (i j : ℕ) → i < j → j < n → R (f i) (f j)
-  listed_adjacent R trans p i j h k =
-      rw (at_number i (omega arith), at_number j k) at
-      (adjacent_all R trans (f 0) (listed f 0 n) p i j h (rw (listed_length f 0 n) k))
 
 -- what a function makes of a list, where another gives the same by place
 pub map_by_place : {A B : Type 0} (g : A → B) (f : ℕ → B) (d : A) (lo : ℕ) (l : List A) → ((i : ℕ) → i < length l → f (lo + i) ≡ g (get_or l i d)) → map g l ≡ listed f lo (length l)

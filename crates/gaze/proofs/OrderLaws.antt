@@ -1,8 +1,8 @@
 -- The order of a group's lines: by keys it is transitive, so a line stands before every later one.
-use mathlib.Core.Path.{◌≡◌, sym, ◌∙◌, subst}
-use mathlib.Core.Logic.{◌⊎◌, inl, inr}
+use mathlib.Core.Path.{◌∙◌}
+use mathlib.Core.Logic.{inl, inr}
 use mathlib.Core.List.{List, [], ◌∷◌}
-use Prim.Native.Nat.{ℕ, ◌<◌}
+use Prim.Native.Nat.{ℕ}
 use native.Mathlib.Omega.{arith}
 use Rattle.gaze.specs.Lists.{Each, Adjacent}
 use Rattle.gaze.specs.Ranges.{Before, InOrder}

@@ -1,9 +1,9 @@
 -- The choice among the sources of one target, and how it is made source by source: a later one with no smaller a total takes the place, so of
 -- equals the latest stays. That is the tie rule, read at one candidate.
 use mathlib.Core.Path.{◌≡◌, refl, sym, ap, ◌∙◌, subst}
-use mathlib.Core.Logic.{◌⊎◌, inl, inr, ⊎_elim}
+use mathlib.Core.Logic.{⊎_elim}
 use mathlib.Core.Bool.{Bool, true, false, not}
-use Prim.Native.Nat.{ℕ, zero, suc, ◌≤◌, ◌<◌, zero-le}
+use Prim.Native.Nat.{ℕ, suc, ◌≤◌, ◌<◌}
 use native.Mathlib.Omega.{arith}
 use native.Mathlib.Nat.{eq-or-lt_of_le}
 use lib.Dec.{T, T_not}

@@ -1,19 +1,19 @@
 -- The dynamic programme as a function, and what it finds: the best chain, or that there is none.
 use mathlib.Core.Path.{◌≡◌, refl, sym, ap, ◌∙◌}
 use mathlib.Core.Bool.{Bool, true, false, not, ◌&&◌}
-use mathlib.Core.Option.{Option, none, some}
+use Rattle.std.specs.Prelude.{Option, None, Some}
 use mathlib.Core.List.{List, [], ◌∷◌, ◌++◌, reverse}
-use Prim.Native.Nat.{ℕ, zero, suc, ◌+◌, ◌≤◌, ◌<◌, zero-le}
+use Prim.Native.Nat.{ℕ, zero, suc, ◌+◌, ◌<◌, zero-le}
 use native.Mathlib.Omega.{arith}
 use lib.Dec.{T, T_not}
 use lib.IntN.{ℤ, pos, ◌+ℤ◌}
 use lib.ListN.{length, get_or, length-append, get_or-append}
 use lib.Seq.{get_or_at}
 use lib.Signed.{lt_z, lt_z_yes, lt_z_no}
-use Rattle.gaze.specs.Chain.{Steps, Valid, total, Best, Assembled}
+use Rattle.gaze.specs.Chain.{Steps, Valid, Best, Assembled}
 use Rattle.gaze.proofs.Tests.{both, not_both}
 use Rattle.gaze.proofs.Picked.{Picked, pick_none, pick_skip, pick_keep, pick_take}
-use Rattle.gaze.proofs.Table.{Table, Filled, Agree, filled_more, filled_best, filled_none, filled_total, trace_back}
+use Rattle.gaze.proofs.Table.{Table, Filled, Agree, filled_more, filled_best, filled_none, trace_back}
 
 pub record Cell : Type 0 where
   pub reach : Bool
@@ -117,24 +117,17 @@ fill_filled m (suc e) =
     filled_more m (table cs) (table (cs ++ (c ∷ []))) (suc e) (grow cs c (suc e) (fill_length m e)) (omega arith) (fill_filled m e)
     (rw (get_or_at cs c [] unreached (suc e) (fill_length m e)) (choose_picked m (table cs) (suc e) (suc e)))
 
--- The programme's answer: is END reached, with what total, by which chain.
+-- The programme's answer: is END reached, and by which chain.
 unfoldable pub reached : Steps → ℕ → Bool
 reached m e = (table (fill m e)).reach e
 
 unfoldable pub answer : Steps → ℕ → List ℕ
 answer m e = reverse (trace_back (table (fill m e)).from e e)
 
-unfoldable pub worth : Steps → ℕ → ℤ
-worth m e = (table (fill m e)).value e
-
 module _ (m : Steps) (e : ℕ) where
   pub answer_best : T (reached m e) → Best m e (answer m e)
   unfolding reached answer
   answer_best y = filled_best m (table (fill m e)) (suc e) (fill_filled m e) e (omega arith) y
-
-  pub answer_worth : T (reached m e) → total m (answer m e) ≡ worth m e
-  unfolding reached answer worth
-  answer_worth y = filled_total m (table (fill m e)) (suc e) (fill_filled m e) e (omega arith) y
 
   pub answer_none : T (not (reached m e)) → (c : List ℕ) → Valid m e c → ⊥
   unfolding reached
@@ -145,5 +138,5 @@ module _ (m : Steps) (e : ℕ) where
   assembled = go (reached m e) answer_best answer_none
     where
       go : (b : Bool) → (T b → Best m e (answer m e)) → (T (not b) → (c : List ℕ) → Valid m e c → ⊥) → (a : Option (List ℕ)) × Assembled m e a
-      go true f g = (some (answer m e), f tt)
-      go false f g = (none, g tt)
+      go true f g = (Some (answer m e), f tt)
+      go false f g = (None, g tt)

@@ -1,4 +1,5 @@
 -- The starred bench values, one table: each is a theorem about the definitions. Chains are shown to be the best, and not only listed.
+use Rattle.std.specs.Prelude.{Err}
 use mathlib.Core.Path.{◌≡◌, refl, ap, subst}
 use mathlib.Core.List.{List, [], ◌∷◌}
 use Prim.Native.Nat.{ℕ, ◌≤◌, ◌<◌, min}
@@ -11,7 +12,7 @@ use Rattle.gaze.specs.declared.Rule.{Rule}
 use Rattle.gaze.specs.declared.Qualifier.{Qualifier}
 use Rattle.gaze.specs.declared.Feature.{Feature}
 use Rattle.gaze.specs.declared.Segment.{Segment}
-use Rattle.gaze.specs.declared.Verdict.TheVariants.{Breaks}
+use Rattle.gaze.specs.declared.Fault.TheVariants.{BadStep}
 use Rattle.gaze.specs.Lists.{keep, first_of, some_of, Adjacent}
 use Rattle.gaze.specs.Chain.{first, last, total, Valid, Best, legal_step, Judged}
 use Rattle.gaze.specs.Sheet.{Sheet, candidates, candidate, end_number}
@@ -85,7 +86,7 @@ pub record Starred : Type 0 where
   pub start_10_scored_low : Wins (with_starts (negsuc 4999) (pos 200)) (0 ∷ 2 ∷ 3 ∷ 5 ∷ []) (pos 2050)
   pub tie : Wins (with_starts (pos 1500) (pos 2250)) (0 ∷ 2 ∷ 3 ∷ 5 ∷ []) (pos 4100)
   pub tied : total (steps (with_starts (pos 1500) (pos 2250))) (0 ∷ 1 ∷ 3 ∷ 5 ∷ []) ≡ pos 4100
-  pub interrupted : Judged (steps sheet_one) 5 (0 ∷ 1 ∷ 4 ∷ 5 ∷ []) (Breaks 2)
+  pub interrupted : Judged (steps sheet_one) 5 (0 ∷ 1 ∷ 4 ∷ 5 ∷ []) (Err (BadStep 2))
   pub stop_24_deleted : Wins without_stop_24 (0 ∷ 1 ∷ 3 ∷ 4 ∷ []) (pos 6900)
   pub no_structure : (c : List ℕ) → Valid (steps without_ends) 5 c → ⊥
   pub slope_1 : penalty slope 1 1 ≡ negsuc 3

@@ -1,14 +1,14 @@
 -- What is answered is determined: two best chains are equal, so two answers to one sheet are, and so are two verdicts on one chain.
 use mathlib.Core.Path.{◌≡◌, refl, sym, ap, ◌∙◌}
 use mathlib.Core.Logic.{◌⊎◌, inl, inr, ⊎_elim}
-use mathlib.Core.Option.{Option, none, some}
-use mathlib.Core.List.{List, [], ◌∷◌, reverse}
-use Prim.Native.Nat.{ℕ, ◌≤◌, ◌<◌}
+use Rattle.std.specs.Prelude.{Option, None, Some, Result, Ok, Err, ℤ}
+use mathlib.Core.List.{List, reverse}
+use Prim.Native.Nat.{ℕ, ◌≤◌}
 use native.Mathlib.Nat.{le_antisymm}
 use native.Mathlib.Omega.{arith}
 use lib.Dec.{T_not}
-use Rattle.gaze.specs.declared.Verdict.{Verdict}
-use Rattle.gaze.specs.declared.Verdict.TheVariants.{NoChain, Breaks, Scores}
+use Rattle.gaze.specs.declared.Fault.{Fault}
+use Rattle.gaze.specs.declared.Fault.TheVariants.{NoChain, BadStep}
 use Rattle.gaze.specs.Chain.{Steps, Valid, Later, here, there, Best, total, Assembled, legal_step, FirstBad, Judged}
 use Rattle.whole.proofs.Order.{≤ℤ_antisymm}
 use Rattle.gaze.proofs.Entries.{all_legal}
@@ -48,10 +48,10 @@ module _ (m : Steps) (e : ℕ) where
       go (inr h) (inr k) = absurd (later_asym h k)
 
   pub assembled_unique : (a b : Option (List ℕ)) → Assembled m e a → Assembled m e b → a ≡ b
-  assembled_unique none none p q = refl
-  assembled_unique none (some d) p q = absurd (p d q.valid)
-  assembled_unique (some c) none p q = absurd (q c p.valid)
-  assembled_unique (some c) (some d) p q = ap some (best_unique c d p q)
+  assembled_unique None None p q = refl
+  assembled_unique None (Some d) p q = absurd (p d q.valid)
+  assembled_unique (Some c) None p q = absurd (q c p.valid)
+  assembled_unique (Some c) (Some d) p q = ap Some (best_unique c d p q)
 
   -- ---- a list sent in
   module _ (c : List ℕ) where
@@ -65,13 +65,13 @@ module _ (m : Steps) (e : ℕ) where
     bad_not_valid : {k : ℕ} → FirstBad m c k → Valid m e c → ⊥
     bad_not_valid {k} b v = T_not (legal_step m c k) b.bad (all_legal m e c v k b.from_one b.within)
 
-    pub judged_unique : (v w : Verdict) → Judged m e c v → Judged m e c w → v ≡ w
-    judged_unique NoChain NoChain p q = refl
-    judged_unique NoChain (Breaks k) p q = absurd (p q.0)
-    judged_unique NoChain (Scores z) p q = absurd (p q.0.chain)
-    judged_unique (Breaks j) NoChain p q = absurd (q p.0)
-    judged_unique (Breaks j) (Breaks k) p q = ap Breaks (first_bad_unique j k p.1 q.1)
-    judged_unique (Breaks j) (Scores z) p q = absurd (bad_not_valid p.1 q.0)
-    judged_unique (Scores y) NoChain p q = absurd (q p.0.chain)
-    judged_unique (Scores y) (Breaks k) p q = absurd (bad_not_valid q.1 p.0)
-    judged_unique (Scores y) (Scores z) p q = ap Scores (p.1 ∙ sym q.1)
+    pub judged_unique : (v w : Result ℤ Fault) → Judged m e c v → Judged m e c w → v ≡ w
+    judged_unique (Err NoChain) (Err NoChain) p q = refl
+    judged_unique (Err NoChain) (Err (BadStep k)) p q = absurd (p q.0)
+    judged_unique (Err NoChain) (Ok z) p q = absurd (p q.0.chain)
+    judged_unique (Err (BadStep j)) (Err NoChain) p q = absurd (q p.0)
+    judged_unique (Err (BadStep j)) (Err (BadStep k)) p q = ap (λ (n : ℕ). Err (BadStep n)) (first_bad_unique j k p.1 q.1)
+    judged_unique (Err (BadStep j)) (Ok z) p q = absurd (bad_not_valid p.1 q.0)
+    judged_unique (Ok y) (Err NoChain) p q = absurd (q p.0.chain)
+    judged_unique (Ok y) (Err (BadStep k)) p q = absurd (bad_not_valid q.1 p.0)
+    judged_unique (Ok y) (Ok z) p q = ap Ok (p.1 ∙ sym q.1)

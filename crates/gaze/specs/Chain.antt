@@ -1,10 +1,9 @@
 -- What a chain is, when it is valid, what it scores, which one is best, and what is said of one that is sent in. Nothing here says how one
 -- is looked for, nor where the steps come from. Candidates are numbers: BEGIN is 0, and END is the number e.
-use Rattle.std.specs.Prelude.{◌≡◌, ◌⊎◌, Bool, not, List, [], ◌∷◌, reverse, ℕ, ◌<◌, ◌-◌, T, ℤ, pos, ◌+ℤ◌, length, get_or, ◌≤ℤ◌}
-use Rattle.std.proofs.Math.Option.{Option, none, some}
+use Rattle.std.specs.Prelude.{◌≡◌, ◌⊎◌, Bool, not, List, [], ◌∷◌, reverse, ℕ, ◌<◌, ◌-◌, T, ℤ, pos, ◌+ℤ◌, length, get_or, ◌≤ℤ◌, Option, Some, None, Result, Ok, Err}
 use Rattle.gaze.specs.Lists.{Adjacent}
-use Rattle.gaze.specs.declared.Verdict.{Verdict}
-use Rattle.gaze.specs.declared.Verdict.TheVariants.{NoChain, Breaks, Scores}
+use Rattle.gaze.specs.declared.Fault.{Fault}
+use Rattle.gaze.specs.declared.Fault.TheVariants.{NoChain, BadStep}
 
 -- A model says of a source and a target whether the step from one to the other is legal, and what it gains.
 pub record Steps : Type 0 where
@@ -13,18 +12,18 @@ pub record Steps : Type 0 where
 
 -- The first and the last number of a list; an empty list has none.
 unfoldable pub first : List ℕ → Option ℕ
-first [] = none
-first (a ∷ l) = some a
+first [] = None
+first (a ∷ l) = Some a
 
 unfoldable pub last : List ℕ → Option ℕ
-last [] = none
-last (a ∷ []) = some a
+last [] = None
+last (a ∷ []) = Some a
 last (a ∷ b ∷ l) = last (b ∷ l)
 
 -- A chain is a list of rising candidate numbers that starts at 0 and ends at e.
 pub record Chain (e : ℕ) (c : List ℕ) : Type 0 where
-  pub starts : first c ≡ some 0
-  pub ends : last c ≡ some e
+  pub starts : first c ≡ Some 0
+  pub ends : last c ≡ Some e
   pub rises : Adjacent (λ a b. a < b) c
 
 -- A chain is valid if every adjacent pair is a legal step.
@@ -52,8 +51,8 @@ pub record Best (m : Steps) (e : ℕ) (c : List ℕ) : Type 0 where
 
 -- What assembling answers: the best chain, or none exactly where no valid chain exists.
 abbrev pub Assembled : Steps → ℕ → Option (List ℕ) → Type 0
-Assembled m e none = (c : List ℕ) → Valid m e c → ⊥
-Assembled m e (some c) = Best m e c
+Assembled m e None = (c : List ℕ) → Valid m e c → ⊥
+Assembled m e (Some c) = Best m e c
 
 -- Step k of a list, from 1, goes from its entry k - 1 to its entry k.
 abbrev pub legal_step : Steps → List ℕ → ℕ → Bool
@@ -66,8 +65,8 @@ pub record FirstBad (m : Steps) (c : List ℕ) (k : ℕ) : Type 0 where
   pub bad : T (not (legal_step m c k))
   pub before : (i : ℕ) → 0 < i → i < k → T (legal_step m c i)
 
--- What is said of a list that is sent in as a chain.
-abbrev pub Judged : Steps → ℕ → List ℕ → Verdict → Type 0
-Judged m e c NoChain = Chain e c → ⊥
-Judged m e c (Breaks k) = Chain e c × FirstBad m c k
-Judged m e c (Scores z) = Valid m e c × (z ≡ total m c)
+-- What is said of a list that is sent in as a chain: its score, or why it has none.
+abbrev pub Judged : Steps → ℕ → List ℕ → Result ℤ Fault → Type 0
+Judged m e c (Ok z) = Valid m e c × (z ≡ total m c)
+Judged m e c (Err NoChain) = Chain e c → ⊥
+Judged m e c (Err (BadStep k)) = Chain e c × FirstBad m c k

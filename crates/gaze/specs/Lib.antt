@@ -5,4 +5,4 @@ pub mod Penalty
 pub mod SegmentScore
 pub mod Step
 pub mod Ranges
-pub mod Columns
+pub mod Lines

@@ -1,6 +1,5 @@
 -- Lists: what holds of each entry, or of each entry and the next, the entries that pass a test, and the list that a function gives.
-use Rattle.std.specs.Prelude.{Bool, cond, ◌||◌, false, List, [], ◌∷◌, ◌++◌, ℕ, zero, suc, ◌+◌}
-use Rattle.std.proofs.Math.Option.{Option, none, some}
+use Rattle.std.specs.Prelude.{Bool, cond, ◌||◌, false, List, [], ◌∷◌, ◌++◌, ℕ, zero, suc, ◌+◌, Option, None, Some}
 
 unfoldable pub Each : {A : Type 0} → (A → Type 0) → List A → Type 0
 Each P [] = Unit {0}
@@ -18,8 +17,8 @@ keep p (a ∷ l) = cond (p a) (a ∷ keep p l) (keep p l)
 
 -- The first entry that passes, if there is one.
 unfoldable pub first_of : {A : Type 0} → (A → Bool) → List A → Option A
-first_of p [] = none
-first_of p (a ∷ l) = cond (p a) (some a) (first_of p l)
+first_of p [] = None
+first_of p (a ∷ l) = cond (p a) (Some a) (first_of p l)
 
 -- Whether there is one.
 unfoldable pub some_of : {A : Type 0} → (A → Bool) → List A → Bool

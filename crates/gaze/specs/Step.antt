@@ -1,7 +1,7 @@
 -- The step from a source candidate to a target candidate of a sheet: whether it is legal, and what it gains. `steps` hands both to the
 -- definitions of chains.
 use Rattle.std.specs.Prelude.{Bool, false, not, ◌&&◌, ◌||◌, List, map, ℕ, ◌-◌, ◌%◌, leb, ltb, eqb, ℤ, pos, ◌+ℤ◌, ◌-ℤ◌}
-use Rattle.std.proofs.Math.Option.{Option, none, some}
+use Rattle.std.specs.Prelude.{Option, Some, None as Nothing}
 use Rattle.whole.specs.Whole.{sum_of}
 use Rattle.gaze.specs.declared.Interruption.{Interruption}
 use Rattle.gaze.specs.declared.Interruption.TheVariants.{None, FromSource, FromTarget}
@@ -64,8 +64,8 @@ gained sheet r s t =
 
 -- ---- by candidate numbers; a pair without a rule is not legal, and gains nothing
 abbrev pub by_rule : {A : Type 0} → Option Rule → (Rule → A) → A → A
-by_rule none f other = other
-by_rule (some r) f other = f r
+by_rule Nothing f other = other
+by_rule (Some r) f other = f r
 
 unfoldable pub legal : Sheet → ℕ → ℕ → Bool
 legal sheet a b =

@@ -1,3 +1,2 @@
-pub mod Faults
-pub mod Going
+pub mod Turns
 pub mod Sound

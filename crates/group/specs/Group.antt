@@ -1,53 +1,52 @@
 -- A group's lines, read from the top up to the first at fault.
-use Rattle.std.specs.Prelude.{Bool, not, cond, List, [], ◌∷◌, ◌++◌, ℕ, ◌+◌, ◌-◌, eqb, leb, ℤ, pos, length, get_or, drop, set}
-use Rattle.text.specs.declared.Row.{Row}
-use Rattle.text.specs.Fields.{line, row_of}
+use Rattle.std.specs.Prelude.{Bool, true, false, cond, List, [], ◌∷◌, ◌++◌, ℕ, ◌+◌, leb, ℤ, length, Option, Some, None, Result, Ok, Err}
+use Rattle.std.specs.List.{last_or}
+use Rattle.arrayvec.specs.ArrayVec.{ArrayVec}
 use Rattle.text.specs.Lines.{Line}
-use Rattle.kinds.specs.declared.Letter.{Letter}
-use Rattle.kinds.specs.Kinds.{byte_of, fields_of, most_of, in_range}
-use Rattle.kinds.specs.Order.{keys_of, order, disorder}
-use Rattle.group.specs.declared.Fault.{Fault}
-use Rattle.group.specs.declared.Tally.{Tally}
+use Rattle.refusal.specs.declared.Reason.{Reason}
+use Rattle.refusal.specs.declared.Reason.TheVariants.{Malformed, Crowded}
+use Rattle.refusal.specs.declared.Refusal.{Refusal}
+use Rattle.kinds.specs.Kinds.{Letter, most_of}
+use Rattle.kinds.specs.Records.{line_of}
+use Rattle.kinds.specs.Order.{order, disorder}
+use Rattle.group.specs.declared.Placed.{Placed}
 
--- A line of a group as it is read: whether it is malformed, and its numbers. 32 is the space between fields.
-abbrev pub line_of : Letter → List ℕ → Row
-line_of letter bytes = row_of (line (byte_of letter) 32 (fields_of letter) bytes)
+-- A line out of order right after the one before it, if there is one.
+abbrev pub disorder_after : {A : Type 0} → (A → List ℕ) → Option (Placed A) → A → Option Reason
+disorder_after keys None line = None
+disorder_after keys (Some before) line = disorder (order (keys before.line) (keys line))
 
--- The line's row: its numbers, and at place 9 its own offset in the sheet.
-abbrev pub row_at : ℕ → Row → List ℤ
-row_at offset line = set line.values 9 (pos offset)
+abbrev pub unless : {A : Type 0} → Option Reason → A → Result A Reason
+unless None line = Ok line
+unless (Some reason) line = Err reason
 
--- What is wrong with a row, where `done` are the rows before it in its group: 3, 7, 4 or 5, looked for in this order, or 0.
-unfoldable pub fault : Letter → ℕ → List (List ℤ) → Bool → List ℤ → ℕ
-fault letter bases done malformed row =
-    cond malformed 3
-    (cond (leb (most_of letter) (length done)) 7
-    (cond (not (in_range letter bases row)) 4
-    (cond (eqb (length done) 0) 0 (disorder (order (keys_of letter) (get_or done (length done - 1) []) row)))))
+abbrev pub ordered : {A : Type 0} → (A → List ℕ) → List (Placed A) → Result A Reason → Result A Reason
+ordered keys done (Ok line) = unless (disorder_after keys (last_or None done) line) line
+ordered keys done (Err reason) = Err reason
 
--- What reading a group gives: its first fault, and the rows of the lines before it.
-pub record Outcome : Type 0 where
-  pub fault : Fault
-  pub rows : List (List ℤ)
+abbrev pub is_malformed : {A : Type 0} → Result A Reason → Bool
+is_malformed (Err Malformed) = true
+is_malformed _ = false
 
-abbrev pub no_fault : Fault
-no_fault = record { number = 0; place = 0 }
+-- What a line is, where `done` are the lines before it in its group: malformed, one too many, out of range or out of order, looked for in this order; or the
+-- record that it says.
+unfoldable pub in_turn : {A : Type 0} → ℕ → (A → List ℕ) → List (Placed A) → Result A Reason → Result A Reason
+in_turn most keys done line = cond (is_malformed line) line (cond (leb most (length done)) (Err Crowded) (ordered keys done line))
 
--- The lines of a group, of which the first begins at the offset, after the rows `done`. The lines of a sheet's group are all ended: the next group, or the
+-- On with a line, or refused at its place.
+abbrev pub at_place : {A B : Type 0} → ℕ → Result A Reason → (A → Result B Refusal) → Result B Refusal
+at_place place (Ok line) go = go line
+at_place place (Err reason) go = Err (record { reason = reason; place = place })
+
+-- The lines of a group, of which the first begins at the offset, after the lines `done`. The lines of a sheet's group are all ended: the next group, or the
 -- trailer, begins where a line begins.
-unfoldable pub read : Letter → ℕ → ℕ → List (List ℤ) → List Line → Outcome
-read letter bases offset done [] = record { fault = no_fault; rows = done }
-read letter bases offset done (l ∷ ls) =
-    cond (eqb (fault letter bases done (line_of letter l.bytes).malformed (row_at offset (line_of letter l.bytes))) 0)
-    (read letter bases (offset + length l.bytes + 1) (done ++ (row_at offset (line_of letter l.bytes) ∷ [])) ls)
-    (record {
-      fault = record { number = fault letter bases done (line_of letter l.bytes).malformed (row_at offset (line_of letter l.bytes)); place = offset };
-      rows = done;
-    })
+unfoldable pub read : {A : Type 0} → Letter → (List ℤ → A) → (A → List ℕ) → ℕ → ℕ → List (Placed A) → List Line → Result (List (Placed A)) Refusal
+read letter of keys bases offset done [] = Ok done
+read letter of keys bases offset done (l ∷ ls) =
+    at_place offset (in_turn (most_of letter) keys done (line_of letter of bases l.bytes))
+    (λ line. read letter of keys bases (offset + length l.bytes + 1) (done ++ (record { line = line; place = offset } ∷ [])) ls)
 
--- How the code hands it over, and what it leaves in the table: the rows at the front, and the rest as it was.
-abbrev pub tally_of : Outcome → Tally
-tally_of o = record { fault = o.fault; count = length o.rows }
-
-abbrev pub laid : Outcome → List (List ℤ) → List (List ℤ)
-laid o table = o.rows ++ drop (length o.rows) table
+-- The list that the code hands over in a vector.
+abbrev pub items_of : {A E : Type 0} → Result (ArrayVec A) E → Result (List A) E
+items_of (Ok v) = Ok v.items
+items_of (Err e) = Err e

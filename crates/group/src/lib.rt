@@ -1,93 +1,73 @@
-// Reads the lines of one group, whichever it is, into a table of rows, up to the first line at fault.
+// Reads the lines of one group, whichever it is, up to the first line at fault.
 
 #![tactic(auto)]
 
-ghost use Rattle.std.specs.Prelude.{◌≡◌, [], ◌+◌, ◌≤◌, length, take};
+ghost use Rattle.std.specs.Prelude.{◌≡◌, [], ◌+◌, ◌<◌, ◌≤◌, length, IfOk};
+ghost use Rattle.arrayvec.specs.ArrayVec.{array_vec_len};
 ghost use Rattle.kinds.specs.Kinds.{most_of};
 ghost use Rattle.text.specs.Lines.{lines};
-ghost use Rattle.group.specs.Group.{fault, read, tally_of, laid};
+ghost use Rattle.group.specs.Group.{in_turn, read, items_of};
 
-use kinds::{Letter, byte_of, fields_of, in_range, most_of, order_fault};
-use text::{find, read_line};
+use arrayvec::ArrayVec;
+use kinds::{Line, disorder};
+use refusal::{Reason, Refusal};
+use text::find;
 
-// What is wrong with a row after the `count` rows at the front of the table: 3, 7, 4 or 5, looked for in this order, or 0.
-fn line_fault(
-    letter: Letter,
-    bases: u32,
-    rows: &[[i64; 10]],
-    count: usize,
-    malformed: bool,
-    row: [i64; 10],
-) -> u64
-    requires { count ≤ length rows.now }
-    ensures { result ≡ fault letter bases (take count rows.now) malformed row }
-{
-    if malformed {
-        return 3;
-    }
-    if count >= most_of(letter) {
-        return 7;
-    }
-    if in_range(letter, bases, row) {
-        if count == 0 {
-            return 0;
-        }
-        return order_fault(letter, rows[count - 1], row);
-    }
-    4
-}
-
-// A refusal: its number and the offset of the line at fault. Both are 0 where nothing is wrong.
-#[derive(Drop)]
-pub struct Fault {
-    pub number: u64,
+// A line, and its offset in the sheet.
+#[derive(Clone, Copy, Default)]
+pub struct Placed<T> {
+    pub line: T,
     pub place: u64,
 }
 
-// What reading a group gives: its first fault, and how many rows were read before it.
-#[derive(Drop)]
-pub struct Tally {
-    pub fault: Fault,
-    pub count: usize,
+// What a line is right after the lines `done`, by what its bytes say: it may be one too many, or out of order.
+#[tactic(auto, using(crate::proofs::Turns::in_turn_is, crate::proofs::Turns::last_is), unfolding(crate::specs::Group::in_turn))]
+fn in_turn<L: Line, const N: usize>(
+    done: &ArrayVec<Placed<L>, N>,
+    line: Result<L, Reason>,
+) -> Result<L, Reason>
+    requires { N ≡ most_of L.letter }
+    ensures line { result ≡ in_turn (most_of L.letter) L.keys done.now.items line }
+    ensures room { IfOk result (λ _. array_vec_len done.now < N) }
+{
+    if let Err(Reason::Malformed) = line {
+        return line;
+    }
+    if done.is_full() {
+        return Err(Reason::Crowded);
+    }
+    let line = line?;
+    if let Some(before) = done.as_slice().last() {
+        if let Some(reason) = disorder(before.line.order(&line)) {
+            return Err(reason);
+        }
+    }
+    Ok(line)
 }
 
 // Reads the lines of a group, which stand in the sheet from `offset` on.
-pub fn read_group(
+#[tactic(auto, using(crate::proofs::Turns::end_low, crate::proofs::Turns::end_high, crate::proofs::Turns::read_end, crate::proofs::Turns::read_refused, crate::proofs::Turns::read_on))]
+pub fn read_group<L: Line, const N: usize>(
     bytes: &[u8],
     offset: usize,
-    letter: Letter,
     bases: u32,
-    rows: &mut [[i64; 10]],
-) -> Tally
-    requires { (offset + length bytes.now ≤ 65536) × (most_of letter ≤ length rows.old) }
-    ensures { (result ≡ tally_of (read letter bases offset [] (lines bytes.now))) × (rows.new ≡ laid (read letter bases offset [] (lines bytes.now)) rows.old) }
+) -> Result<ArrayVec<Placed<L>, N>, Refusal>
+    requires room { N ≡ most_of L.letter }
+    requires short { offset + length bytes.now ≤ 65536 }
+    ensures { items_of result ≡ read L.letter L.of L.keys bases offset [] (lines bytes.now) }
 {
+    let mut group = ArrayVec::new();
     let mut place = 0;
-    let mut count = 0;
+    // Written as a `while`, since a refusal needs the place of its line: `split_inclusive` gives no places, and leaves each line its LF.
     while place < bytes.len() {
-        let end = find(bytes, place, 10);
-        let line = read_line(&bytes[place..end], byte_of(letter), b' ', fields_of(letter));
-        let mut row = line.values;
-        row[9] = (offset + place) as i64;
-        let number = line_fault(letter, bases, rows, count, line.malformed, row);
-        if number != 0 {
-            return Tally {
-                fault: Fault {
-                    number,
-                    place: (offset + place) as u64,
-                },
-                count,
-            };
+        let end = find(bytes, place, b'\n');
+        let at = (offset + place) as u64;
+        // A `match` and not `map_err`, since the clause of its closure did not unfold in the proof.
+        match in_turn(&group, L::read(&bytes[place..end], bases)) {
+            Ok(line) => group.push(Placed { line, place: at }),
+            Err(reason) => return Err(Refusal { reason, place: at }),
         }
-        rows[count] = row;
-        count += 1;
         place = end + 1;
     }
-    Tally {
-        fault: Fault {
-            number: 0,
-            place: 0,
-        },
-        count,
-    }
+    Ok(group)
 }

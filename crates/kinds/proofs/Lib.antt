@@ -1,2 +1,2 @@
-pub mod Orders
-pub mod Ranges
+pub mod Fields
+pub mod Order

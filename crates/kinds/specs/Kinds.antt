@@ -2,8 +2,15 @@
 -- a line's numbers from its place 0 on.
 use Rattle.std.specs.Prelude.{Bool, not, ◌&&◌, cond, List, ℕ, ℤ, pos, negsuc, get_or}
 use Rattle.std.specs.Int.Signed.{le_z}
-use Rattle.kinds.specs.declared.Letter.{Letter}
-use Rattle.kinds.specs.declared.Letter.TheVariants.{L, P, R, Q, F, S}
+
+-- The groups, each by its letter.
+pub data Letter : Type 0 where
+  L : Letter
+  P : Letter
+  R : Letter
+  Q : Letter
+  F : Letter
+  S : Letter
 
 abbrev pub byte_of : Letter → ℕ
 byte_of L = 76

@@ -1,2 +1,4 @@
 pub mod Kinds
+pub mod Records
+pub mod Keys
 pub mod Order

@@ -1,247 +1,274 @@
-// The six groups of lines, each known by its letter: how many fields a line has, how many lines a group may have, the ranges of the fields, and
-// the order of the lines. A row holds a line's numbers from its place 0 on.
+// The six groups of lines, each known by its letter: what a line says, the ranges of its fields, and the order of the lines.
 
-#![tactic(auto)]
+#![tactic(auto, unfolding(crate::specs::Kinds::in_range, crate::specs::Kinds::interruption, crate::specs::Records::ranged, crate::specs::Records::line_of, crate::specs::Order::order))]
 
-ghost use Rattle.std.specs.Prelude.{◌≡◌, [], ◌∷◌, ◌<◌, ◌≤◌, pos};
-ghost use Rattle.std.specs.Int.Signed.{le_z};
-ghost use Rattle.kinds.specs.Kinds.{byte_of, fields_of, most_of, between, field, thousandths, source_type, interruption, in_range};
-ghost use Rattle.kinds.specs.Order.{keys_of, compared, decided, order, disorder};
+ghost use Rattle.std.specs.Prelude.{◌≡◌, true, false, List, ℕ, ℤ, pos, MatchOption};
+ghost use Rattle.std.specs.Option.{ok_or};
+ghost use Rattle.gaze.specs.Ranges.{point_keys, rule_keys, qualifier_keys, feature_keys, segment_keys};
+ghost use Rattle.text.specs.Fields.{line};
+ghost use Rattle.refusal.specs.declared.Reason.TheVariants.{Malformed};
+ghost use Rattle.kinds.specs.Kinds.{Letter, L, P, R, Q, F, S, field, between, thousandths, source_type, interruption};
+ghost use Rattle.kinds.specs.Records.{line_of, number, interruption_of, ranged, length_of, point_of, rule_of, qualifier_of, feature_of, segment_of};
+ghost use Rattle.kinds.specs.Order.{order, disorder};
+ghost use Rattle.kinds.specs.Keys.{length_keys};
 
-#[derive(Clone, Copy)]
-pub enum Letter {
-    L,
-    P,
-    R,
-    Q,
-    F,
-    S,
+use gaze::{Feature, Interruption, Point, Qualifier, Rule, Segment};
+use refusal::Reason;
+use std::cmp::Ordering;
+use text::read_line;
+
+// The L line: how many bases the sequence has.
+#[derive(Clone, Copy, Default)]
+pub struct Length {
+    pub bases: u32,
 }
 
-pub fn byte_of(letter: Letter) -> u8
-    ensures { result ≡ byte_of letter }
+// A line of a group, as the record that it is.
+pub trait Line: Copy + Default {
+    // The group's letter, the record that a row of numbers is, and the keys that order the group.
+    ghost letter: { Letter };
+
+    ghost of: { List ℤ → Self };
+
+    ghost keys: { Self → List ℕ };
+
+    // What a line says, by its bytes without the LF, in a sequence of so many bases.
+    fn read(bytes: &[u8], bases: u32) -> Result<Self, Reason>
+        ensures { result ≡ line_of letter of bases bytes.now };
+
+    // How a line stands to the next one.
+    fn order(&self, next: &Self) -> Ordering
+        ensures { result ≡ order (keys self.now) (keys next.now) };
+}
+
+// The numbers of a line with this letter and `N` fields, with a space before each.
+fn numbers<const N: usize>(bytes: &[u8], letter: u8) -> Result<[i64; N], Reason>
+    ensures { result ≡ ok_or (line letter 32 N bytes.now) Malformed }
 {
-    match letter {
-        Letter::L => b'L',
-        Letter::P => b'P',
-        Letter::R => b'R',
-        Letter::Q => b'Q',
-        Letter::F => b'F',
-        Letter::S => b'S',
+    read_line(bytes, letter, b' ').ok_or(Reason::Malformed)
+}
+
+impl Line for Length {
+    ghost letter = { L };
+
+    ghost of = { length_of };
+
+    ghost keys = { length_keys };
+
+    fn read(bytes: &[u8], _bases: u32) -> Result<Length, Reason> {
+        length_of(numbers(bytes, b'L')?).ok_or(Reason::Range)
+    }
+
+    fn order(&self, _next: &Length) -> Ordering {
+        Ordering::Equal
     }
 }
 
-pub fn fields_of(letter: Letter) -> usize
-    ensures { (result ≡ fields_of letter) × (result ≤ 9) }
-{
-    match letter {
-        Letter::L => 1,
-        Letter::P => 3,
-        Letter::R => 9,
-        Letter::Q => 6,
-        Letter::F => 3,
-        Letter::S => 4,
+impl Line for Point {
+    ghost letter = { P };
+
+    ghost of = { point_of };
+
+    ghost keys = { point_keys };
+
+    fn read(bytes: &[u8], _bases: u32) -> Result<Point, Reason> {
+        point_of(numbers(bytes, b'P')?).ok_or(Reason::Range)
+    }
+
+    fn order(&self, next: &Point) -> Ordering {
+        [self.function, self.distance].cmp(&[next.function, next.distance])
     }
 }
 
-pub fn most_of(letter: Letter) -> usize
-    ensures { result ≡ most_of letter }
-{
-    match letter {
-        Letter::L => 1,
-        Letter::P => 512,
-        Letter::R => 256,
-        Letter::Q => 256,
-        Letter::F => 1024,
-        Letter::S => 1024,
+impl Line for Rule {
+    ghost letter = { R };
+
+    ghost of = { rule_of };
+
+    ghost keys = { rule_keys };
+
+    fn read(bytes: &[u8], _bases: u32) -> Result<Rule, Reason> {
+        rule_of(numbers(bytes, b'R')?).ok_or(Reason::Range)
+    }
+
+    fn order(&self, next: &Rule) -> Ordering {
+        [self.source, self.target].cmp(&[next.source, next.target])
     }
 }
 
-// Whether the number at a place of a row lies in low..=high.
-pub fn within(row: [i64; 10], place: usize, low: u32, high: u32) -> bool
-    requires { place < 10 }
-    ensures { result ≡ between (pos low) (pos high) (field row place) }
-{
-    let x = row[place];
-    (low as i64 <= x) & (x <= high as i64)
-}
+impl Line for Qualifier {
+    ghost letter = { Q };
 
-// Whether it is a score or a penalty.
-fn scored(row: [i64; 10], place: usize) -> bool
-    requires { place < 10 }
-    ensures { result ≡ thousandths (field row place) }
-{
-    let x = row[place];
-    (-10000000 <= x) & (x <= 10000000)
-}
+    ghost of = { qualifier_of };
 
-// Whether the number at one place is at most that at the other.
-fn at_most(row: [i64; 10], place: usize, other: usize) -> bool
-    requires { (place < 10) × (other < 10) }
-    ensures { result ≡ le_z (field row place) (field row other) }
-{
-    row[place] <= row[other]
-}
+    ghost keys = { qualifier_keys };
 
-fn length_in_range(row: [i64; 10]) -> bool
-    ensures { result ≡ in_range Letter.L 0 row }
-{
-    within(row, 0, 1, 4000000)
-}
-
-fn point_in_range(row: [i64; 10]) -> bool
-    ensures { result ≡ in_range Letter.P 0 row }
-{
-    within(row, 0, 1, 16) & within(row, 1, 0, 4000000) & scored(row, 2)
-}
-
-fn source_in_range(row: [i64; 10]) -> bool
-    ensures { result ≡ source_type (field row 0) }
-{
-    within(row, 0, 0, 31) & !within(row, 0, 1, 1)
-}
-
-fn interruption_in_range(row: [i64; 10]) -> bool
-    ensures { result ≡ interruption row }
-{
-    if within(row, 5, 0, 0) {
-        return within(row, 6, 0, 0) & within(row, 7, 0, 0);
+    fn read(bytes: &[u8], _bases: u32) -> Result<Qualifier, Reason> {
+        qualifier_of(numbers(bytes, b'Q')?).ok_or(Reason::Range)
     }
-    within(row, 5, 1, 2) & within(row, 6, 2, 31) & within(row, 7, 0, 2)
-}
 
-fn rule_in_range(row: [i64; 10]) -> bool
-    ensures { result ≡ in_range Letter.R 0 row }
-{
-    source_in_range(row)
-        & within(row, 1, 1, 31)
-        & within(row, 2, 0, 4000000)
-        & within(row, 3, 0, 4000000)
-        & at_most(row, 2, 3)
-        & within(row, 4, 0, 3)
-        & interruption_in_range(row)
-        & within(row, 8, 0, 17)
-}
-
-fn qualifier_in_range(row: [i64; 10]) -> bool
-    ensures { result ≡ in_range Letter.Q 0 row }
-{
-    source_in_range(row)
-        & within(row, 1, 1, 31)
-        & within(row, 2, 0, 15)
-        & within(row, 3, 1, 2)
-        & within(row, 4, 0, 3)
-        & within(row, 5, 0, 3)
-}
-
-fn feature_in_range(bases: u32, row: [i64; 10]) -> bool
-    ensures { result ≡ in_range Letter.F bases row }
-{
-    within(row, 0, 2, 31) & within(row, 1, 1, bases) & scored(row, 2)
-}
-
-fn segment_in_range(bases: u32, row: [i64; 10]) -> bool
-    ensures { result ≡ in_range Letter.S bases row }
-{
-    within(row, 0, 0, 15)
-        & within(row, 1, 1, bases)
-        & within(row, 2, 1, bases)
-        & at_most(row, 1, 2)
-        & scored(row, 3)
-}
-
-// Whether every number of the row lies in its range, in a sequence of so many bases.
-pub fn in_range(letter: Letter, bases: u32, row: [i64; 10]) -> bool
-    ensures { result ≡ in_range letter bases row }
-{
-    match letter {
-        Letter::L => length_in_range(row),
-        Letter::P => point_in_range(row),
-        Letter::R => rule_in_range(row),
-        Letter::Q => qualifier_in_range(row),
-        Letter::F => feature_in_range(bases, row),
-        Letter::S => segment_in_range(bases, row),
+    fn order(&self, next: &Qualifier) -> Ordering {
+        [self.source, self.target, self.kind].cmp(&[next.source, next.target, next.kind])
     }
 }
 
-// How one line stands to the next.
-#[derive(Drop)]
-pub enum Order {
-    Before,
-    Same,
-    After,
-}
+impl Line for Feature {
+    ghost letter = { F };
 
-fn compared(a: i64, b: i64) -> Order
-    ensures { result ≡ compared a b }
-{
-    if a < b {
-        return Order::Before;
+    ghost of = { feature_of };
+
+    ghost keys = { feature_keys };
+
+    fn read(bytes: &[u8], bases: u32) -> Result<Feature, Reason> {
+        feature_of(numbers(bytes, b'F')?, bases).ok_or(Reason::Range)
     }
-    if b < a {
-        return Order::After;
-    }
-    Order::Same
-}
 
-fn by_one(first: [i64; 10], second: [i64; 10], i: usize) -> Order
-    requires { i < 10 }
-    ensures { result ≡ order (i ∷ []) first second }
-{
-    compared(first[i], second[i])
-}
-
-// The first key at which two lines differ decides.
-fn decided(key: Order, others: Order) -> Order
-    ensures { result ≡ decided key others }
-{
-    match key {
-        Order::Before => Order::Before,
-        Order::Same => others,
-        Order::After => Order::After,
+    fn order(&self, next: &Feature) -> Ordering {
+        [self.position, self.kind].cmp(&[next.position, next.kind])
     }
 }
 
-fn by_two(first: [i64; 10], second: [i64; 10], i: usize, j: usize) -> Order
-    requires { (i < 10) × (j < 10) }
-    ensures { result ≡ order (i ∷ j ∷ []) first second }
-{
-    decided(by_one(first, second, i), by_one(first, second, j))
-}
+impl Line for Segment {
+    ghost letter = { S };
 
-fn by_three(first: [i64; 10], second: [i64; 10], i: usize, j: usize, k: usize) -> Order
-    requires { (i < 10) × (j < 10) × (k < 10) }
-    ensures { result ≡ order (i ∷ j ∷ k ∷ []) first second }
-{
-    decided(by_one(first, second, i), by_two(first, second, j, k))
-}
+    ghost of = { segment_of };
 
-fn standing(letter: Letter, first: [i64; 10], second: [i64; 10]) -> Order
-    ensures { result ≡ order (keys_of letter) first second }
-{
-    match letter {
-        Letter::L => Order::Same,
-        Letter::P => by_two(first, second, 0, 1),
-        Letter::R => by_two(first, second, 0, 1),
-        Letter::Q => by_three(first, second, 0, 1, 2),
-        Letter::F => by_two(first, second, 1, 0),
-        Letter::S => by_three(first, second, 1, 2, 0),
+    ghost keys = { segment_keys };
+
+    fn read(bytes: &[u8], bases: u32) -> Result<Segment, Reason> {
+        segment_of(numbers(bytes, b'S')?, bases).ok_or(Reason::Range)
+    }
+
+    fn order(&self, next: &Segment) -> Ordering {
+        [self.start, self.end, self.kind].cmp(&[next.start, next.end, next.kind])
     }
 }
 
-fn disorder(order: Order) -> u64
+// The number, where it lies in low..=high.
+#[tactic(auto, unfolding(crate::specs::Kinds::between))]
+fn within(z: i64, low: u32, high: u32) -> Option<u32>
+    ensures { MatchOption result (between (pos low) (pos high) z ≡ false) (λ n. (between (pos low) (pos high) z ≡ true) × (z ≡ pos n)) }
+{
+    u32::try_from(z).ok().filter(|n| (low..=high).contains(n))
+}
+
+// The number, where a score or a penalty may be it.
+#[tactic(auto, unfolding(crate::specs::Kinds::thousandths))]
+fn scored(z: i64) -> Option<i64>
+    ensures { MatchOption result (thousandths z ≡ false) (λ score. (thousandths z ≡ true) × (score ≡ z)) }
+{
+    (-10_000_000..=10_000_000).contains(&z).then_some(z)
+}
+
+// The number, where a source may be of that type.
+#[tactic(auto, unfolding(crate::specs::Kinds::between))]
+fn source_of(z: i64) -> Option<u32>
+    ensures { MatchOption result (source_type z ≡ false) (λ n. (source_type z ≡ true) × (z ≡ pos n)) }
+{
+    within(z, 0, 31).filter(|source| *source != 1)
+}
+
+fn length_of(row: [i64; 1]) -> Option<Length>
+    ensures { result ≡ ranged L length_of 0 row }
+{
+    let [bases] = row;
+    Some(Length {
+        bases: within(bases, 1, 4_000_000)?,
+    })
+}
+
+fn point_of(row: [i64; 3]) -> Option<Point>
+    ensures { result ≡ ranged P point_of 0 row }
+{
+    let [function, distance, penalty] = row;
+    Some(Point {
+        function: within(function, 1, 16)?,
+        distance: within(distance, 0, 4_000_000)?,
+        penalty: scored(penalty)?,
+    })
+}
+
+#[tactic(auto, unfolding(crate::specs::Kinds::between, crate::specs::Kinds::interruption))]
+fn interruption_of(row: [i64; 9]) -> Option<Interruption>
+    ensures { MatchOption result (interruption row ≡ false) (λ i. (interruption row ≡ true) × (i ≡ interruption_of (number row 5) (number row 6) (number row 7))) }
+{
+    let [.., from, kind, remainder, _] = row;
+    match from {
+        0 => (kind == 0 && remainder == 0).then_some(Interruption::None),
+        1 => Some(Interruption::FromSource {
+            kind: within(kind, 2, 31)?,
+            remainder: within(remainder, 0, 2)?,
+        }),
+        2 => Some(Interruption::FromTarget {
+            kind: within(kind, 2, 31)?,
+            remainder: within(remainder, 0, 2)?,
+        }),
+        _ => None,
+    }
+}
+
+fn rule_of(row: [i64; 9]) -> Option<Rule>
+    ensures { result ≡ ranged R rule_of 0 row }
+{
+    let [source, target, min, max, phase, .., function] = row;
+    let rule = Rule {
+        source: source_of(source)?,
+        target: within(target, 1, 31)?,
+        min: within(min, 0, 4_000_000)?,
+        max: within(max, 0, 4_000_000)?,
+        phase: within(phase, 0, 3)?,
+        interruption: interruption_of(row)?,
+        function: within(function, 0, 17)?,
+    };
+    (rule.min <= rule.max).then_some(rule)
+}
+
+// The Q line of these numbers, where each lies in its range.
+pub fn qualifier_of(row: [i64; 6]) -> Option<Qualifier>
+    ensures { result ≡ ranged Q qualifier_of 0 row }
+{
+    let [source, target, kind, method, phase, matching] = row;
+    Some(Qualifier {
+        source: source_of(source)?,
+        target: within(target, 1, 31)?,
+        kind: within(kind, 0, 15)?,
+        method: within(method, 1, 2)?,
+        phase: within(phase, 0, 3)?,
+        matching: within(matching, 0, 3)?,
+    })
+}
+
+fn feature_of(row: [i64; 3], bases: u32) -> Option<Feature>
+    ensures { result ≡ ranged F feature_of bases row }
+{
+    let [kind, position, score] = row;
+    Some(Feature {
+        kind: within(kind, 2, 31)?,
+        position: within(position, 1, bases)?,
+        score: scored(score)?,
+    })
+}
+
+// The S line of these numbers, where each lies in its range, in a sequence of so many bases.
+pub fn segment_of(row: [i64; 4], bases: u32) -> Option<Segment>
+    ensures { result ≡ ranged S segment_of bases row }
+{
+    let [kind, start, end, score] = row;
+    let segment = Segment {
+        kind: within(kind, 0, 15)?,
+        start: within(start, 1, bases)?,
+        end: within(end, 1, bases)?,
+        score: scored(score)?,
+    };
+    (segment.start <= segment.end).then_some(segment)
+}
+
+// What is wrong with a line in the order right after another, by how the other stands to it.
+pub fn disorder(order: Ordering) -> Option<Reason>
     ensures { result ≡ disorder order }
 {
     match order {
-        Order::Before => 0,
-        Order::Same => 5,
-        Order::After => 5,
+        Ordering::Less => None,
+        Ordering::Equal | Ordering::Greater => Some(Reason::Disorder),
     }
-}
-
-// What is wrong with a line in the order right after another: 5, or 0.
-pub fn order_fault(letter: Letter, first: [i64; 10], second: [i64; 10]) -> u64
-    ensures { result ≡ disorder (order (keys_of letter) first second) }
-{
-    disorder(standing(letter, first, second))
 }

@@ -6,26 +6,28 @@ use Prim.Native.Nat.{ℕ, ◌≤◌, ◌<◌}
 use native.Mathlib.Omega.{arith}
 use lib.ListN.{length, drop}
 use Rattle.gaze.specs.declared.Segment.{Segment}
-use Rattle.gaze.specs.declared.Verdict.{Verdict}
-use Rattle.gaze.specs.declared.Verdict.TheVariants.{NoChain, Breaks, Scores}
+use Rattle.std.specs.Prelude.{ℤ, Result, Ok, Err}
+use Rattle.gaze.specs.declared.Fault.{Fault}
+use Rattle.gaze.specs.declared.Fault.TheVariants.{NoChain, BadStep}
+use Rattle.refusal.specs.declared.Refusal.{Refusal}
 use Rattle.gaze.specs.Chain.{Best, Valid, Judged, total}
 use Rattle.gaze.specs.Sheet.{Sheet, end_number}
 use Rattle.gaze.specs.Step.{steps}
 use Rattle.gaze.proofs.Unique.{best_unique, judged_unique}
 use Rattle.records.specs.declared.Region.{Region}
-use Rattle.sheet.specs.Reading.{Reading, reading, refused, accepted}
+use Rattle.sheet.specs.Reading.{reading}
 use Rattle.liivokarp.specs.declared.Reply.{Reply}
-use Rattle.liivokarp.specs.Replies.{refusal, done, candidates_of, Assembles, sheet_refused, no_room, no_structure, assembled, ScoresChain, its_sheet_refused, no_chain, breaks, scored, ScoresRegion}
-use Rattle.liivokarp.specs.Held.{verdict_reply}
+use Rattle.liivokarp.specs.Replies.{refused, done, candidates_of, Assembles, sheet_refused, no_room, no_structure, assembled, ScoresChain, its_sheet_refused, no_chain, breaks, scored, ScoresRegion}
+use Rattle.liivokarp.specs.Outcomes.{refusal_of}
 
 -- ---- a text is read in one way
-not_both : {x : Reading} {number place : ℕ} {sheet : Sheet} → x ≡ refused number place → x ≡ accepted sheet → ⊥
-not_both p q = let z : ◌≡◌ {A = ℕ} 0 1 = cc in omega arith
+not_both : {x : Result Sheet Refusal} {refusal : Refusal} {sheet : Sheet} → x ≡ Err refusal → x ≡ Ok sheet → ⊥
+not_both p q = cc
 
-same_refusal : {x : Reading} {n p n' p' : ℕ} → x ≡ refused n p → x ≡ refused n' p' → refusal n p ≡ refusal n' p'
+same_refusal : {x : Result Sheet Refusal} {a b : Refusal} → x ≡ Err a → x ≡ Err b → refused a ≡ refused b
 same_refusal p q = cc
 
-same_sheet : {x : Reading} {sheet sheet' : Sheet} → x ≡ accepted sheet → x ≡ accepted sheet' → sheet ≡ sheet'
+same_sheet : {x : Result Sheet Refusal} {sheet sheet' : Sheet} → x ≡ Ok sheet → x ≡ Ok sheet' → sheet ≡ sheet'
 same_sheet p q = cc
 
 -- ---- one sheet, one buffer
@@ -48,19 +50,19 @@ both p q h h' k k' = record { reply = h ∙ (p ∙ sym h'); buffer = k ∙ (q �
 
 -- THE THEOREM for `lk_assemble`
 pub assembles_determined : {bytes chain₀ : List ℕ} {r r' : Reply} {x x' : List ℕ} → Assembles bytes chain₀ r x → Assembles bytes chain₀ r' x' → Same r x r' x'
-assembles_determined (sheet_refused n p e h k) (sheet_refused n' p' e' h' k') = both (same_refusal e e') refl h h' k k'
-assembles_determined (sheet_refused n p e h k) (no_room s e' l h' k') = absurd (not_both e e')
-assembles_determined (sheet_refused n p e h k) (no_structure s e' l never h' k') = absurd (not_both e e')
-assembles_determined (sheet_refused n p e h k) (assembled s e' l c best h' k') = absurd (not_both e e')
-assembles_determined (no_room s e l h k) (sheet_refused n p e' h' k') = absurd (not_both e' e)
+assembles_determined (sheet_refused n e h k) (sheet_refused n' e' h' k') = both (same_refusal e e') refl h h' k k'
+assembles_determined (sheet_refused n e h k) (no_room s e' l h' k') = absurd (not_both e e')
+assembles_determined (sheet_refused n e h k) (no_structure s e' l never h' k') = absurd (not_both e e')
+assembles_determined (sheet_refused n e h k) (assembled s e' l c best h' k') = absurd (not_both e e')
+assembles_determined (no_room s e l h k) (sheet_refused n e' h' k') = absurd (not_both e' e)
 assembles_determined (no_room s e l h k) (no_room s' e' l' h' k') = both refl refl h h' k k'
 assembles_determined (no_room s e l h k) (no_structure s' e' l' never h' k') = absurd (room_or_not (same_sheet e e') l l')
 assembles_determined (no_room s e l h k) (assembled s' e' l' c best h' k') = absurd (room_or_not (same_sheet e e') l l')
-assembles_determined (no_structure s e l never h k) (sheet_refused n p e' h' k') = absurd (not_both e' e)
+assembles_determined (no_structure s e l never h k) (sheet_refused n e' h' k') = absurd (not_both e' e)
 assembles_determined (no_structure s e l never h k) (no_room s' e' l' h' k') = absurd (room_or_not (same_sheet e' e) l' l)
 assembles_determined (no_structure s e l never h k) (no_structure s' e' l' never' h' k') = both refl refl h h' k k'
 assembles_determined (no_structure s e l never h k) (assembled s' e' l' c best h' k') = absurd (valid_or_none (same_sheet e e') never best)
-assembles_determined (assembled s e l c best h k) (sheet_refused n p e' h' k') = absurd (not_both e' e)
+assembles_determined (assembled s e l c best h k) (sheet_refused n e' h' k') = absurd (not_both e' e)
 assembles_determined (assembled s e l c best h k) (no_room s' e' l' h' k') = absurd (room_or_not (same_sheet e' e) l' l)
 assembles_determined (assembled s e l c best h k) (no_structure s' e' l' never h' k') = absurd (valid_or_none (same_sheet e' e) never best)
 assembles_determined {chain₀ = chain₀} (assembled s e l c best h k) (assembled s' e' l' d best' h' k') =
@@ -68,27 +70,31 @@ assembles_determined {chain₀ = chain₀} (assembled s e l c best h k) (assembl
     let one = one_best same best best' in
     both (λ t. done (total (steps (same t)) (one t)) (length (one t))) (λ t. one t ++ drop (length (one t)) chain₀) h h' k k'
 
--- ---- a lent chain: the sheet is refused, or there is a verdict
+-- ---- a lent chain: the sheet is refused, or the chain is judged
 record Refused (bytes : List ℕ) (r : Reply) : Type 0 where
-  number : ℕ
-  place : ℕ
-  read : reading bytes ≡ refused number place
-  replied : r ≡ refusal number place
+  refusal : Refusal
+  read : reading bytes ≡ Err refusal
+  replied : r ≡ refused refusal
+
+-- The reply to a judged chain, which counts its candidates where it is valid.
+abbrev judged_reply : Result ℤ Fault → ℕ → Reply
+judged_reply (Ok score) count = done score count
+judged_reply (Err fault) count = refused (refusal_of fault)
 
 record Judging (bytes chain : List ℕ) (r : Reply) : Type 0 where
   sheet : Sheet
-  read : reading bytes ≡ accepted sheet
-  verdict : Verdict
+  read : reading bytes ≡ Ok sheet
+  verdict : Result ℤ Fault
   judged : Judged (steps sheet) (end_number sheet) chain verdict
-  replied : r ≡ verdict_reply verdict (length chain)
+  replied : r ≡ judged_reply verdict (length chain)
 
 either : {bytes chain : List ℕ} {r : Reply} → ScoresChain bytes chain r → Refused bytes r ⊎ Judging bytes chain r
-either (its_sheet_refused n p e h) = inl (record { number = n; place = p; read = e; replied = h })
-either (no_chain s e never h) = inr (record { sheet = s; read = e; verdict = NoChain; judged = never; replied = h })
-either (breaks s e c k bad h) = inr (record { sheet = s; read = e; verdict = Breaks k; judged = (c, bad); replied = h })
-either {chain = chain} (scored s e v h) = inr (record { sheet = s; read = e; verdict = Scores (total (steps s) chain); judged = (v, refl); replied = h })
+either (its_sheet_refused refusal e h) = inl (record { refusal = refusal; read = e; replied = h })
+either (no_chain s e never h) = inr (record { sheet = s; read = e; verdict = Err NoChain; judged = never; replied = h })
+either (breaks s e c k bad h) = inr (record { sheet = s; read = e; verdict = Err (BadStep k); judged = (c, bad); replied = h })
+either {chain = chain} (scored s e v h) = inr (record { sheet = s; read = e; verdict = Ok (total (steps s) chain); judged = (v, refl); replied = h })
 
-one_verdict : {sheet sheet' : Sheet} (chain : List ℕ) (v w : Verdict) → sheet ≡ sheet' → Judged (steps sheet) (end_number sheet) chain v
+one_verdict : {sheet sheet' : Sheet} (chain : List ℕ) (v w : Result ℤ Fault) → sheet ≡ sheet' → Judged (steps sheet) (end_number sheet) chain v
     → Judged (steps sheet') (end_number sheet') chain w → v ≡ w
 one_verdict {sheet} {sheet'} chain v w e p q = judged_unique (steps sheet') (end_number sheet') chain v w (rw e at p) q
 
@@ -102,7 +108,7 @@ scores_determined {bytes} {chain} {r} {r'} a b = go (either a) (either b)
     go (inr p) (inl q) = absurd (not_both q.read p.read)
     go (inr p) (inr q) =
         p.replied
-        ∙ (ap (λ (v : Verdict). verdict_reply v (length chain)) (one_verdict chain p.verdict q.verdict (same_sheet p.read q.read) p.judged q.judged)
+        ∙ (ap (λ (v : Result ℤ Fault). judged_reply v (length chain)) (one_verdict chain p.verdict q.verdict (same_sheet p.read q.read) p.judged q.judged)
         ∙ sym q.replied)
 
 -- THE THEOREM for `lk_region_score`, which changes no buffer

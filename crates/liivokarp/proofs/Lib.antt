@@ -1,3 +1,2 @@
-pub mod Holding
 pub mod Answering
 pub mod Determined

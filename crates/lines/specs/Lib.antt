@@ -1,2 +1,2 @@
 pub mod Lines
-pub mod Regions
+pub mod Table

@@ -2,49 +2,61 @@
 
 #![tactic(auto)]
 
-ghost use Rattle.std.specs.Prelude.{◌≡◌, List, ℕ, ◌+◌, ◌*◌, ◌<◌, ◌≤◌, length, get_or};
-ghost use Rattle.gaze.specs.declared.Qualifier.{Qualifier};
-ghost use Rattle.gaze.specs.Columns.{qualifier_at};
-ghost use Rattle.lines.specs.Lines.{Held, Holds, pair_at, PairColumn, LinesAt};
+ghost use Rattle.std.specs.Prelude.{◌≡◌, ◌<◌, ◌≤◌, length};
+ghost use Rattle.gaze.specs.Lists.{keep, Each};
+ghost use Rattle.gaze.specs.Ranges.{Group, QualifierRanges, qualifier_keys};
+ghost use Rattle.lines.specs.Lines.{of_types, pair_number};
 
 use gaze::Qualifier;
+use std::marker::Model;
 
-pub fn qualifier_at(rows: &[u32], k: usize) -> Qualifier
-    requires { 6 * k + 6 ≤ length rows.now }
-    ensures { result ≡ qualifier_at rows.now k }
-{
-    let b = 6 * k;
-    Qualifier {
-        source: rows[b],
-        target: rows[b + 1],
-        kind: rows[b + 2],
-        method: rows[b + 3],
-        phase: rows[b + 4],
-        matching: rows[b + 5],
+// The Q lines of a sheet. At 32 × source + target stands where the lines of that pair begin; the entry after it is where they end. To contracts
+// it is the list of the lines.
+#[derive(Drop)]
+pub struct Lines<'a> {
+    qualifiers: &'a [Qualifier],
+    first: [usize; 1025],
+}
+
+impl<'a> Model for Lines<'a> {
+    ghost use Rattle.std.specs.Prelude.{List};
+    ghost use Rattle.gaze.specs.declared.Qualifier.{Qualifier};
+
+    ghost Value = { List Qualifier };
+
+    ghost use Rattle.lines.specs.Table.{IsTabled};
+
+    ghost view = { λ l. l.qualifiers.now };
+
+    ghost invariant = { IsTabled };
+}
+
+impl<'a> Lines<'a> {
+    pub fn of(qualifiers: &'a [Qualifier]) -> Lines<'a>
+        requires { Group 256 QualifierRanges qualifier_keys qualifiers.now }
+        ensures { result ≡ qualifiers.now }
+    {
+        Lines {
+            qualifiers,
+            first: sorted::first_rows(qualifiers, |line| pair_of(line.source, line.target)),
+        }
+    }
+
+    // The lines of a pair of types.
+    pub fn of_types(&self, source: u32, target: u32) -> &[Qualifier]
+        requires source_type { source < 32 }
+        requires target_type { target < 32 }
+        ensures lines { result.now ≡ keep (of_types source target) self.now }
+        ensures few { length result.now ≤ 256 }
+        ensures ranged { Each QualifierRanges result.now }
+    {
+        let pair = pair_of(source, target);
+        &self.qualifiers[self.first[pair]..self.first[pair + 1]]
     }
 }
 
-// The pairs of the first `count` lines, each as 32 × source + target.
-fn pair_column(rows: &[u32], count: usize) -> [u32; 256]
-    requires { Held rows.now count }
-    ensures { PairColumn rows.now count result }
+fn pair_of(source: u32, target: u32) -> usize
+    ensures { result ≡ pair_number source target }
 {
-    let mut pairs = [0u32; 256];
-    let mut k: usize = 0;
-    while k < count {
-        pairs[k] = 32 * rows[6 * k] + rows[6 * k + 1];
-        k += 1;
-    }
-    pairs
-}
-
-// At 32 × source + target where the lines of that pair begin; the entry after it is where they end.
-pub fn line_table(rows: &[u32], count: usize) -> [usize; 1025]
-    requires { Held rows.now count }
-    ensures { (lines : List Qualifier) → Holds lines rows.now count → LinesAt lines rows.now result }
-{
-    let pairs = pair_column(rows, count);
-    let mut first = [0usize; 1025];
-    sorted::first_rows(&pairs, count, &mut first);
-    first
+    32 * source as usize + target as usize
 }

@@ -2,103 +2,64 @@
 
 #![tactic(auto)]
 
-ghost use Rattle.std.specs.Prelude.{◌≡◌, ◌+◌, ◌*◌, ◌≤◌, eqb, pos, nat_abs, length, get_or};
-ghost use Rattle.gaze.specs.Lists.{some_of, listed};
-ghost use Rattle.gaze.specs.Columns.{rule_at};
-ghost use Rattle.links.specs.Links.{has_rule, missing, pointed, Placed};
+ghost use Rattle.std.specs.Prelude.{◌≡◌, ◌&&◌, ◌||◌, Bool, eqb};
+ghost use Rattle.std.specs.List.{list_any};
+ghost use Rattle.std.specs.Fn.{FnReturnsAt};
+ghost use Rattle.links.specs.Links.{lines_in, has_rule, has_points, linked};
 
-use group::Fault;
+use gaze::{Point, Qualifier, Rule};
+use group::Placed;
+use refusal::{Reason, Refusal};
 
-// Whether a rule of this source and target stands among the first `count` rows of nine.
-fn has_rule(rules: &[u32], count: usize, source: u32, target: u32) -> bool
-    requires { 9 * count ≤ length rules.now }
-    ensures { result ≡ has_rule (listed (rule_at rules.now) 0 count) source target }
+fn has_rule(rules: &[Placed<Rule>], source: u32, target: u32) -> bool
+    ensures { result ≡ list_any (λ p. eqb p.line.source source && eqb p.line.target target) rules.now }
 {
-    let mut i = 0;
-    while i < count {
-        if (rules[9 * i] == source) & (rules[9 * i + 1] == target) {
-            return true;
-        }
-        i += 1;
-    }
-    false
+    rules.iter().any(|rule| rule.line.source == source && rule.line.target == target)
 }
 
-// Whether a point of this function stands among the first `count`.
-fn has_point(functions: &[u32], count: usize, function: u32) -> bool
-    requires { count ≤ length functions.now }
-    ensures { result ≡ some_of (λ i. eqb (get_or functions.now i 0) function) (listed (λ i. i) 0 count) }
+fn has_point(points: &[Placed<Point>], function: u32) -> bool
+    ensures { result ≡ list_any (λ p. eqb p.line.function function) points.now }
 {
-    let mut i = 0;
-    while i < count {
-        if functions[i] == function {
-            return true;
-        }
-        i += 1;
-    }
-    false
+    points.iter().any(|point| point.line.function == function)
 }
 
-// Functions 0 and 17 want no point.
-fn has_points(functions: &[u32], count: usize, function: u32) -> bool
-    requires { count ≤ length functions.now }
-    ensures { result ≡ pointed functions.now count function }
+// Function 0 is zero and function 17 is shipped: they need no point.
+#[tactic(auto, using(crate::proofs::Sought::some_line), unfolding(crate::specs::Links::has_points))]
+fn has_points(points: &[Placed<Point>], function: u32) -> bool
+    ensures { result ≡ has_points (lines_in points.now) function }
 {
-    (function == 0) | (function == 17) | has_point(functions, count, function)
+    function == 0 || function == 17 || has_point(points, function)
 }
 
-// The first Q line that has no rule among the first `among`.
-pub fn unruled(
-    qualifiers: &[u32],
-    places: &[i64],
-    count: usize,
-    rules: &[u32],
-    among: usize,
-) -> Fault
-    requires { Placed 6 count qualifiers.now places.now × (9 * among ≤ length rules.now) }
-    ensures { result ≡ missing (λ i. has_rule (listed (rule_at rules.now) 0 among) (get_or qualifiers.now (6 * i) 0) (get_or qualifiers.now (6 * i + 1) 0)) (λ i. nat_abs (get_or places.now i (pos 0))) (listed (λ i. i) 0 count) }
+// Refuses the first line that lacks what it needs.
+fn linked<T: Copy, F: Fn(&T) -> bool>(lines: &[Placed<T>], has: F) -> Result<(), Refusal>
+    requires { F.IsAlwaysCallable has }
+    ensures { (test : T → Bool) → ((line : T) (passes : Bool) → FnReturnsAt F.Fn has line passes → passes ≡ test line) → result ≡ linked test lines.now }
 {
-    let mut i = 0;
-    while i < count {
-        if has_rule(rules, among, qualifiers[6 * i], qualifiers[6 * i + 1]) {
-            i += 1;
-        } else {
-            return Fault {
-                number: 6,
-                place: places[i] as u64,
-            };
+    for placed in lines {
+        if !has(&placed.line) {
+            return Err(Refusal {
+                reason: Reason::Link,
+                place: placed.place,
+            });
         }
     }
-    Fault {
-        number: 0,
-        place: 0,
-    }
+    Ok(())
 }
 
-// The first R line whose function has no point among the first `among`.
-pub fn unpointed(
-    rules: &[u32],
-    places: &[i64],
-    count: usize,
-    functions: &[u32],
-    among: usize,
-) -> Fault
-    requires { Placed 9 count rules.now places.now × (among ≤ length functions.now) }
-    ensures { result ≡ missing (λ i. pointed functions.now among (get_or rules.now (9 * i + 8) 0)) (λ i. nat_abs (get_or places.now i (pos 0))) (listed (λ i. i) 0 count) }
+// The first Q line that has no rule is refused.
+pub fn find_rules(qualifiers: &[Placed<Qualifier>], rules: &[Placed<Rule>]) -> Result<(), Refusal>
+    ensures { result ≡ linked (λ q. has_rule (lines_in rules.now) q.source q.target) qualifiers.now }
 {
-    let mut i = 0;
-    while i < count {
-        if has_points(functions, among, rules[9 * i + 8]) {
-            i += 1;
-        } else {
-            return Fault {
-                number: 6,
-                place: places[i] as u64,
-            };
-        }
-    }
-    Fault {
-        number: 0,
-        place: 0,
-    }
+    linked(
+        qualifiers,
+        |qualifier| has_rule(rules, qualifier.source, qualifier.target),
+    )
+}
+
+// The first R line whose function has no point is refused.
+pub fn find_points(rules: &[Placed<Rule>], points: &[Placed<Point>]) -> Result<(), Refusal>
+    ensures { result ≡ linked (λ r. has_points (lines_in points.now) r.function) rules.now }
+{
+    linked(rules, |rule| has_points(points, rule.function))
 }

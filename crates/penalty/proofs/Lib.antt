@@ -1,6 +1,6 @@
 pub mod Expanded
-pub mod Sizes
 pub mod Lines
-pub mod Curves
+pub mod Halves
+pub mod Sizes
 pub mod Functions
-pub mod FromSheet
+pub mod Own

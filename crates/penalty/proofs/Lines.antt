@@ -1,108 +1,42 @@
--- Which part of the definition holds at a distance, for points f lo to f (hi - 1): none, the first point, a line, or what stands beyond the last.
-use mathlib.Core.Logic.{⊎_elim}
-use mathlib.Core.Path.{◌≡◌, refl, ap, ap₂, ◌∙◌}
-use mathlib.Core.Bool.{cond}
-use Prim.Native.Nat.{ℕ, zero, suc, ◌+◌, ◌-◌, ◌≤◌, ◌<◌}
-use native.Mathlib.Nat.{eq-or-lt_of_le}
-use native.Mathlib.Numerals.{add-one}
-use native.Mathlib.Omega.{arith}
+-- What points of rising distance give at a distance: of those before it only the last counts, and of the others only the first.
+use Rattle.std.proofs.Common.{◌≡◌, ℕ, suc, ◌-◌, ◌<◌, ◌≤◌, List, [], ◌∷◌, ◌++◌, length, refl, ap, ◌∙◌, arith, ℤ, pos}
+use Rattle.std.specs.Prelude.{Option, Some, None}
+use Rattle.std.specs.List.{slice_get}
 use borrow.Author.Tests.{le-leb, lt-leb}
-use lib.Dec.{leb}
-use lib.IntN.{ℤ, pos}
 use Rattle.gaze.specs.declared.Point.{Point}
-use Rattle.gaze.specs.Lists.{listed}
-use Rattle.gaze.specs.Penalty.{on_line, beyond, past, interpolated}
-use Rattle.gaze.proofs.ListLaws.{listed_first}
+use Rattle.gaze.specs.Lists.{Each}
+use Rattle.gaze.specs.Penalty.{on_line, past, interpolated}
 
-module _ (f : ℕ → Point) (d : ℕ) where
-  -- ---- past the point f a, where f (suc a) is the next and n more follow
-  past_line : (n a i : ℕ) → a ≤ i → i ≤ a + n → ((j : ℕ) → a ≤ j → j ≤ i → (f j).distance < d) → d ≤ (f (suc i)).distance
-      → past (f a) (f (suc a)) (listed f (suc (suc a)) n) d ≡ on_line (f i) (f (suc i)) d
-  unfolding past listed
-  past_line zero a i h k l m =
-      let e : i ≡ a = omega arith in
-      rw (e, le-leb d (f (suc a)).distance (rw e at m)) refl
-  past_line (suc n) a i h k l m =
-      rw (listed_first f (suc (suc a)) n)
-      (⊎_elim here (further (λ lt. past_line n (suc a) i lt (omega arith) (λ j u v. l j (omega arith) v) m)) (eq-or-lt_of_le h))
-    where
-      rest : ℤ
-      rest = past (f (suc a)) (f (suc (suc a))) (listed f (suc (suc (suc a))) n) d
+-- the last point before the distance, and the first at it or beyond
+abbrev pub by_ends : Option Point → Option Point → ℕ → ℤ
+by_ends None None d = pos 0
+by_ends None (Some q) d = q.penalty
+by_ends (Some p) None d = p.penalty
+by_ends (Some p) (Some q) d = on_line p q d
 
-      here : a ≡ i → cond (leb d (f (suc a)).distance) (on_line (f a) (f (suc a)) d) rest ≡ on_line (f i) (f (suc i)) d
-      here e = rw (← e, le-leb d (f (suc a)).distance (rw (← e) at m)) refl
+module _ (d : ℕ) where
+  abbrev Before : Point → Type 0
+  Before p = p.distance < d
 
-      further : (a < i → rest ≡ on_line (f i) (f (suc i)) d) → a < i
-          → cond (leb d (f (suc a)).distance) (on_line (f a) (f (suc a)) d) rest ≡ on_line (f i) (f (suc i)) d
-      further later lt = rw (lt-leb d (f (suc a)).distance (l (suc a) (omega arith) lt)) (later lt)
+  passed : (p q : Point) (l : List Point) → Before p → Before q → interpolated (p ∷ q ∷ l) d ≡ interpolated (q ∷ l) d
+  unfolding interpolated past
+  passed p q [] h k = rw (lt-leb d p.distance h, lt-leb d q.distance k) refl
+  passed p q (r ∷ l) h k = rw (lt-leb d p.distance h, lt-leb d q.distance k) refl
 
-  past_beyond : (n a : ℕ) → ((j : ℕ) → a ≤ j → j ≤ suc a + n → (f j).distance < d)
-      → past (f a) (f (suc a)) (listed f (suc (suc a)) n) d ≡ beyond (f (a + n)) (f (suc a + n)) d
-  unfolding past listed
-  past_beyond zero a l =
-      let e : a + 0 ≡ a = omega arith in
-      let e' : suc a + 0 ≡ suc a = omega arith in
-      rw (e, e', lt-leb d (f (suc a)).distance (l (suc a) (omega arith) (omega arith))) refl
-  past_beyond (suc n) a l =
-      let e : suc a + n ≡ a + suc n = omega arith in
-      let e' : suc (suc a) + n ≡ suc a + suc n = omega arith in
-      rw (listed_first f (suc (suc a)) n, lt-leb d (f (suc a)).distance (l (suc a) (omega arith) (omega arith)), ← e, ← e')
-      (past_beyond n (suc a) (λ j u v. l j (omega arith) (omega arith)))
+  at_last : (p : Point) (after : List Point) → Before p → Each (λ q. d ≤ q.distance) after → interpolated (p ∷ after) d ≡ by_ends (Some p) (slice_get after 0) d
+  unfolding interpolated past Each
+  at_last p [] h e = refl
+  at_last p (q ∷ []) h e = rw (lt-leb d p.distance h, le-leb d q.distance e.0) refl
+  at_last p (q ∷ r ∷ l) h e = rw (lt-leb d p.distance h, le-leb d q.distance e.0) refl
 
-  -- ---- points lo to hi, hi left out
-  module _ (lo hi : ℕ) where
-    pub interpolated_none : lo ≡ hi → interpolated (listed f lo (hi - lo)) d ≡ pos 0
-    unfolding interpolated listed
-    interpolated_none e = let n : hi - lo ≡ 0 = omega arith in rw n refl
-
-    pub interpolated_alone : suc lo ≡ hi → interpolated (listed f lo (hi - lo)) d ≡ (f lo).penalty
-    unfolding interpolated listed
-    interpolated_alone e =
-        let n : hi - lo ≡ 1 = omega arith in
-        let first : lo + 0 ≡ lo = omega arith in
-        rw (n, first) refl
-
-    several : suc lo < hi
-        → interpolated (listed f lo (hi - lo)) d
-        ≡ cond (leb d (f lo).distance) (f lo).penalty (past (f lo) (f (suc lo)) (listed f (suc (suc lo)) (hi - lo - 2)) d)
-    unfolding interpolated
-    several h =
-        let n : hi - lo ≡ suc (suc (hi - lo - 2)) = omega arith in
-        ap (λ (k : ℕ). interpolated (listed f lo k) d) n ∙ rw (listed_first f lo (suc (hi - lo - 2)), listed_first f (suc lo) (hi - lo - 2)) refl
-
-    pub interpolated_first : lo < hi → d ≤ (f lo).distance → interpolated (listed f lo (hi - lo)) d ≡ (f lo).penalty
-    interpolated_first h l =
-        ⊎_elim interpolated_alone (λ more. several more ∙ rw (le-leb d (f lo).distance l) refl) (eq-or-lt_of_le h)
-
-    -- the first point is f lo, and d lies past it
-    past_first : suc lo < hi → (f lo).distance < d
-        → interpolated (listed f lo (hi - lo)) d ≡ past (f lo) (f (suc lo)) (listed f (suc (suc lo)) (hi - lo - 2)) d
-    past_first h l = several h ∙ rw (lt-leb d (f lo).distance l) refl
-
-    pub interpolated_line : (i : ℕ) → lo ≤ i → i + 1 < hi → ((j : ℕ) → lo ≤ j → j ≤ i → (f j).distance < d) → d ≤ (f (i + 1)).distance
-        → interpolated (listed f lo (hi - lo)) d ≡ on_line (f i) (f (i + 1)) d
-    interpolated_line i h k l m =
-        past_first (omega arith) (l lo (omega arith) h)
-        ∙ rw (add-one i) (past_line (hi - lo - 2) lo i h (omega arith) l (rw (add-one i) at m))
-
-    pub interpolated_beyond : suc lo < hi → ((j : ℕ) → lo ≤ j → j < hi → (f j).distance < d)
-        → interpolated (listed f lo (hi - lo)) d ≡ beyond (f (hi - 2)) (f (hi - 1)) d
-    interpolated_beyond h l =
-        past_first h (l lo (omega arith) (omega arith))
-        ∙ (past_beyond (hi - lo - 2) lo (λ j u v. l j u (omega arith))
-        ∙ ap₂ (λ (i j : ℕ). beyond (f i) (f j) d) (before_last h) (last h))
-      where
-        before_last : suc lo < hi → lo + (hi - lo - 2) ≡ hi - 2
-        before_last h = omega arith
-
-        last : suc lo < hi → suc lo + (hi - lo - 2) ≡ hi - 1
-        last h = omega arith
-
-    -- The one law that says what stands beyond the last point: its penalty.
-    pub interpolated_last : lo < hi → ((j : ℕ) → lo ≤ j → j < hi → (f j).distance < d)
-        → interpolated (listed f lo (hi - lo)) d ≡ (f (hi - 1)).penalty
-    interpolated_last h l =
-        ⊎_elim (λ e. interpolated_alone e ∙ ap (λ (i : ℕ). (f i).penalty) (only e)) (λ more. interpolated_beyond more l) (eq-or-lt_of_le h)
-      where
-        only : suc lo ≡ hi → lo ≡ hi - 1
-        only e = omega arith
+  pub interpolated_by_ends : (before after : List Point) → Each Before before → Each (λ q. d ≤ q.distance) after
+      → interpolated (before ++ after) d ≡ by_ends (slice_get before (length before - 1)) (slice_get after 0) d
+  unfolding interpolated Each
+  interpolated_by_ends [] [] e f = refl
+  interpolated_by_ends [] (q ∷ []) e f = refl
+  interpolated_by_ends [] (q ∷ r ∷ l) e f = rw (le-leb d q.distance f.0) refl
+  interpolated_by_ends (p ∷ []) after e f = at_last p after e.0 f
+  interpolated_by_ends (p ∷ q ∷ l) after e f =
+      let one_on : suc (length (q ∷ l) - 1) ≡ length (p ∷ q ∷ l) - 1 = omega arith in
+      passed p q (l ++ after) e.0 e.1.0
+      ∙ (interpolated_by_ends (q ∷ l) after e.1 f ∙ ap (λ (i : ℕ). by_ends (slice_get (p ∷ q ∷ l) i) (slice_get after 0) d) one_on)

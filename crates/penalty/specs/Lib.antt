@@ -1,2 +1,2 @@
 pub mod Intron
-pub mod Rows
+pub mod Curves

@@ -4,21 +4,35 @@
 
 ghost use Rattle.std.specs.Prelude.{◌≡◌, ◌≤◌};
 ghost use Rattle.gaze.specs.Penalty.{penalty};
-ghost use Rattle.penalty_cases.specs.Cases.{points};
+ghost use Rattle.penalty_cases.specs.Cases.{point, points};
 
+use gaze::Point;
+use penalty::Curves;
 use std::io;
+
+fn point(function: u32, distance: u32, penalty: i64) -> Point
+    ensures { result ≡ point function distance penalty }
+{
+    Point {
+        function,
+        distance,
+        penalty,
+    }
+}
 
 fn value(function: u32, d: u32) -> i64
     requires known { function ≤ 17 }
     requires bounded { d ≤ 4000000 }
     ensures { result ≡ penalty points function d }
 {
-    let functions = [1u32, 1, 2, 3, 3];
-    let distances = [0u32, 3, 7, 10, 4000000];
-    let penalties = [0i64, -10, 250, -5, 9999];
-    let first = penalty::first_rows(&functions, 5);
-    let intron = penalty::intron_table();
-    penalty::penalty_at(&distances, &penalties, &first, &intron, function, d)
+    let points = [
+        point(1, 0, 0),
+        point(1, 3, -10),
+        point(2, 7, 250),
+        point(3, 10, -5),
+        point(3, 4000000, 9999),
+    ];
+    Curves::of(&points).penalty_at(function, d)
 }
 
 fn compare(rt: &impl Print, function: u32, d: u32, right: i64) -> io::Result<()>

@@ -1,110 +1,148 @@
 -- A score is given exactly where the region is in range and the records would do as the S lines of a sheet of 4,000,000 bases.
-use mathlib.Core.Path.{◌≡◌, refl, sym, ap, ◌∙◌}
-use mathlib.Core.Logic.{⊎_elim}
+use mathlib.Core.Path.{◌≡◌, refl, ap}
 use mathlib.Core.Bool.{Bool, true, false, cond}
 use mathlib.Core.List.{List, [], ◌∷◌}
-use Prim.Native.Nat.{ℕ, zero, suc, ◌+◌, ◌≤◌, ◌<◌}
+use Prim.Native.Nat.{ℕ, ◌+◌, ◌≤◌, ◌<◌}
 use native.Mathlib.Omega.{arith}
-use borrow.Author.Tests.{eq-eqb, eqb-true}
-use lib.Dec.{eqb}
+use borrow.Author.Tests.{leb-false, lt-leb}
+use Rattle.std.proofs.lemmas.Bool.Decides.{nat_tests}
+use lib.Dec.{leb}
 use lib.IntN.{ℤ}
 use lib.ListN.{length}
+use Rattle.std.specs.Prelude.{Option, Some, None, Result, Ok, Err}
+use Rattle.gaze.specs.declared.Qualifier.{Qualifier}
 use Rattle.gaze.specs.declared.Segment.{Segment}
 use Rattle.gaze.specs.Lists.{Each, Adjacent}
 use Rattle.gaze.specs.Ranges.{SegmentRanges, segment_keys, InOrder, Group}
 use Rattle.gaze.specs.Ranges as ranges
 use Rattle.gaze.specs.SegmentScore.{segment_score}
-use Rattle.gaze.proofs.Tests.{at_or_below}
+use Rattle.refusal.specs.declared.Reason.{Reason}
+use Rattle.refusal.specs.declared.Reason.TheVariants.{Crowded, Range}
+use Rattle.refusal.specs.declared.Refusal.{Refusal}
+use Rattle.kinds.specs.Kinds.{S, Q, in_range}
+use Rattle.kinds.specs.Records.{ranged, qualifier_of}
 use Rattle.kinds.specs.Order.{disorder}
-use Rattle.kinds.proofs.Orders.{in_order}
-use Rattle.records.specs.declared.Fault.{Fault}
+use Rattle.kinds.proofs.Fields.{segment_ranges}
+use Rattle.kinds.proofs.Order.{stands_before}
 use Rattle.records.specs.declared.Region.{Region}
-use Rattle.records.specs.declared.Regional.TheVariants.{Refused, Scored}
-use Rattle.records.specs.Held.{blank}
-use Rattle.records.specs.Records.{record_fault, first_fault}
-use Rattle.records.specs.Answers.{qualifier_of, region_in_range, region_answer}
-use Rattle.records.proofs.Records.{keys_before, ranges_record, before_keys}
-use Rattle.records.proofs.Faults.{Clean, fault_7, fault_first, fault_next, ranged, goes_on, clean_first, clean_rest, all_ranged}
+use Rattle.records.specs.Records.{row_of, disorder_after, record_fault, unless, checked}
+use Rattle.records.specs.Answers.{line_of, bases_in_range, asked_by, scored, answered, region_answer}
+use Rattle.records.proofs.Records.{ranges_record, before_keys}
 
--- ---- from a record with no fault to its place among the others
-module _ (passed : ℕ) (before g : Segment) (e : record_fault passed before g ≡ 0) where
+-- where there is a record before it, a record comes after it in the order
+abbrev After : Option Segment → Segment → Type 0
+After None g = Unit {0}
+After (Some before) g = ranges.Before (segment_keys before) (segment_keys g)
+
+-- ---- one record
+record Passed (passed : ℕ) (before : Option Segment) (g : Segment) : Type 0 where
   room : passed < 1024
-  room = ⊎_elim (λ h. let x : ⊥ = omega (arith, fault_7 passed before g h) in absurd x) (λ h. h) (at_or_below 1024 passed)
+  ranges : SegmentRanges 4000000 g
+  after : After before g
 
-  follows : (passed ≡ 0 → ⊥) → ranges.Before (segment_keys before) (segment_keys g)
-  follows some = keys_before before g (in_order _ (sym (fault_next passed before g room (ranged passed before g e) some) ∙ e))
+after_of : (before : Option Segment) (g : Segment) → disorder_after before g ≡ None → After before g
+after_of None g e = tt
+after_of (Some before) g e = stands_before (segment_keys before) (segment_keys g) refl e
 
-few : (passed : ℕ) (before : Segment) (l : List Segment) → Clean (first_fault passed before l) → passed ≤ 1024 → passed + length l ≤ 1024
-few passed before [] c h = omega arith
-few passed before (g ∷ l) c h =
-    let r = room passed before g (clean_first passed before g l c) in
-    let n = few (passed + 1) g l (clean_rest passed before g l c) (omega arith) in
-    omega arith
+passed_of : (passed : ℕ) (before : Option Segment) (g : Segment) → record_fault passed before g ≡ None → Passed passed before g
+unfolding record_fault row_of
+passed_of passed before g = go (leb 1024 passed) refl (in_range S 4000000 (row_of g)) refl
+  where
+    go : (a : Bool) → leb 1024 passed ≡ a → (b : Bool) → in_range S 4000000 (row_of g) ≡ b
+        → cond a (Some Crowded) (cond b (disorder_after before g) (Some Range)) ≡ None → Passed passed before g
+    go true p b q e = cc
+    go false p false q e = cc
+    go false p true q e = record { room = leb-false 1024 passed p; ranges = segment_ranges 4000000 (row_of g) q; after = after_of before g e }
 
-ordered : (passed : ℕ) (before : Segment) (l : List Segment) → Clean (first_fault passed before l) → InOrder segment_keys l
+fault_none : (passed : ℕ) (before : Option Segment) (g : Segment) → Passed passed before g → record_fault passed before g ≡ None
+unfolding record_fault
+fault_none passed before g p = rw (lt-leb 1024 passed p.room, ranges_record g p.ranges) (none before p.after)
+  where
+    none : (before : Option Segment) → After before g → disorder_after before g ≡ None
+    none None a = refl
+    none (Some before) a = ap disorder (before_keys before g a)
+
+-- ---- all of them
+-- the records, and the one before them
+abbrev behind : Option Segment → List Segment → List Segment
+behind None l = l
+behind (Some before) l = before ∷ l
+
+-- what S lines have to meet, of records that stand after so many others
+pub record Lines (passed : ℕ) (before : Option Segment) (l : List Segment) : Type 0 where
+  pub few : passed + length l ≤ 1024
+  pub each : Each (SegmentRanges 4000000) l
+  pub ordered : InOrder segment_keys (behind before l)
+
+joined : (before : Option Segment) (g : Segment) (l : List Segment) → After before g → InOrder segment_keys (g ∷ l) → InOrder segment_keys (behind before (g ∷ l))
 unfolding Adjacent
-ordered passed before [] c = tt
-ordered passed before (g ∷ []) c = tt
-ordered passed before (g ∷ h ∷ l) c =
-    let d = clean_rest passed before g (h ∷ l) c in
-    (follows (passed + 1) g h (clean_first (passed + 1) g h l d) (λ z. omega arith), ordered (passed + 1) g (h ∷ l) d)
+joined None g l a o = o
+joined (Some before) g l a o = (a, o)
 
--- ---- and back
-no_fault_of : (passed : ℕ) (before g : Segment) → passed < 1024 → SegmentRanges 4000000 g
-    → ((passed ≡ 0 → ⊥) → ranges.Before (segment_keys before) (segment_keys g)) → record_fault passed before g ≡ 0
-no_fault_of zero before g h r b = fault_first zero before g h (ranges_record g r) refl
-no_fault_of (suc passed) before g h r b =
-    let some : suc passed ≡ 0 → ⊥ = λ z. omega arith in
-    fault_next (suc passed) before g h (ranges_record g r) some ∙ ap disorder (before_keys before g (b some))
+parted : (before : Option Segment) (g : Segment) (l : List Segment) → InOrder segment_keys (behind before (g ∷ l)) → After before g × InOrder segment_keys (g ∷ l)
+unfolding Adjacent
+parted None g l o = (tt, o)
+parted (Some before) g l o = o
 
-clean_of : (passed : ℕ) (before g : Segment) (l : List Segment) → passed + suc (length l) ≤ 1024 → Each (SegmentRanges 4000000) (g ∷ l)
-    → InOrder segment_keys (g ∷ l) → ((passed ≡ 0 → ⊥) → ranges.Before (segment_keys before) (segment_keys g)) → Clean (first_fault passed before (g ∷ l))
-unfolding Each Adjacent first_fault
-clean_of passed before g [] n each o b = ap (λ (f : Fault). f.number) (goes_on passed before g [] (no_fault_of passed before g (omega arith) each.0 b))
-clean_of passed before g (h ∷ l) n each o b =
-    ap (λ (f : Fault). f.number) (goes_on passed before g (h ∷ l) (no_fault_of passed before g (omega arith) each.0 b))
-    ∙ clean_of (passed + 1) g h l (omega arith) each.1 o.1 (λ _. o.0)
+pub checked_lines : (passed : ℕ) (before : Option Segment) (l : List Segment) → passed ≤ 1024 → checked passed before l ≡ Ok tt → Lines passed before l
+unfolding checked Each Adjacent
+checked_lines passed None [] h e = record { few = omega arith; each = tt; ordered = tt }
+checked_lines passed (Some before) [] h e = record { few = omega arith; each = tt; ordered = tt }
+checked_lines passed before (g ∷ l) h e = go (record_fault passed before g) refl (checked_lines (passed + 1) (Some g) l) e
+  where
+    go : (o : Option Reason) → record_fault passed before g ≡ o → (passed + 1 ≤ 1024 → checked (passed + 1) (Some g) l ≡ Ok tt → Lines (passed + 1) (Some g) l)
+        → unless o (passed + 1) (checked (passed + 1) (Some g) l) ≡ Ok tt → Lines passed before (g ∷ l)
+    go (Some reason) f others e = cc
+    go None f others e =
+        let p = passed_of passed before g f in
+        let rest = others (omega (arith, p.room)) e in
+        record { few = omega (arith, rest.few); each = (p.ranges, rest.each); ordered = joined before g l p.after rest.ordered }
 
-abbrev Lines : List Segment → Type 0
-Lines records = Group 1024 (SegmentRanges 4000000) segment_keys records
+pub lines_checked : (passed : ℕ) (before : Option Segment) (l : List Segment) → Lines passed before l → checked passed before l ≡ Ok tt
+unfolding checked Each
+lines_checked passed before [] n = refl
+lines_checked passed before (g ∷ l) n =
+    let o = parted before g l n.ordered in
+    rw (fault_none passed before g (record { room = omega (arith, n.few); ranges = n.each.0; after = o.0 }))
+    (lines_checked (passed + 1) (Some g) l (record { few = omega (arith, n.few); each = n.each.1; ordered = o.1 }))
 
-clean_lines : (records : List Segment) → Lines records → Clean (first_fault 0 blank records)
-unfolding first_fault
-clean_lines [] g = refl
-clean_lines (h ∷ l) g = let n = g.few in clean_of 0 blank h l (omega arith) g.each g.ordered (λ none. absurd (none refl))
+-- ---- the region
+pub record Bounded (region : Region) : Type 0 where
+  pub ordered : region.source ≤ region.target
+  pub bounded : region.target ≤ 4000000
+
+pub asked_bounded : (region : Region) (q : Qualifier) → asked_by region ≡ Some q → Bounded region
+unfolding asked_by
+asked_bounded region q = go (bases_in_range region) refl
+  where
+    go : (b : Bool) → bases_in_range region ≡ b → cond b (ranged Q qualifier_of 0 (line_of region)) None ≡ Some q → Bounded region
+    go false n e = cc
+    go true y e = record { ordered = grind (arith, nat_tests); bounded = grind (arith, nat_tests) }
 
 -- ---- what is said
-abbrev score_of : Region → List Segment → ℤ
-score_of region records = segment_score (qualifier_of region) region.source region.target records
-
 pub record Accepted (region : Region) (records : List Segment) (score : ℤ) : Type 0 where
-  pub in_range : region_in_range region ≡ true
-  pub lines : Lines records
-  pub is : score ≡ score_of region records
+  pub q : Qualifier
+  pub asked : asked_by region ≡ Some q
+  pub lines : Group 1024 (SegmentRanges 4000000) segment_keys records
+  pub is : score ≡ segment_score q region.source region.target records
 
-refused_scored : {number place : ℕ} {score : ℤ} {A : Type 0} → Refused number place ≡ Scored score → A
-refused_scored e = let z : ◌≡◌ {A = ℕ} 0 1 = cc in let x : ⊥ = omega arith in absurd x
-
-pub scored_only : (region : Region) (records : List Segment) (score : ℤ) → region_answer region records ≡ Scored score → Accepted region records score
+pub scored_only : (region : Region) (records : List Segment) (score : ℤ) → region_answer region records ≡ Ok score → Accepted region records score
 unfolding region_answer
-scored_only region records score = go (region_in_range region) refl (eqb (first_fault 0 blank records).number 0) refl
+scored_only region records score = go (asked_by region) refl
   where
-    go : (b : Bool) → region_in_range region ≡ b → (c : Bool) → eqb (first_fault 0 blank records).number 0 ≡ c
-        → cond b (cond c (Scored (score_of region records)) (Refused (first_fault 0 blank records).number (first_fault 0 blank records).place)) (Refused 4 0) ≡ Scored score
+    by_check : (q : Qualifier) → asked_by region ≡ Some q → (r : Result (Unit {0}) Refusal) → checked 0 None records ≡ r → scored region q records r ≡ Ok score
         → Accepted region records score
-    go false e c q h = refused_scored h
-    go true e false q h = refused_scored h
-    go true e true q h =
-        let clean = eqb-true (first_fault 0 blank records).number 0 q in
-        let n = few 0 blank records clean (omega arith) in
-        record {
-          in_range = e;
-          lines = record { few = omega arith; each = all_ranged 0 blank records clean; ordered = ordered 0 blank records clean };
-          is = (cc);
-        }
+    by_check q a (Err refusal) c e = cc
+    by_check q a (Ok u) c e =
+        let n = checked_lines 0 None records (omega arith) c in
+        record { q = q; asked = a; lines = record { few = omega (arith, n.few); each = n.each; ordered = n.ordered }; is = (cc) }
 
-pub scored_all : (region : Region) (records : List Segment) (score : ℤ) → Accepted region records score → region_answer region records ≡ Scored score
+    go : (o : Option Qualifier) → asked_by region ≡ o → answered region records o ≡ Ok score → Accepted region records score
+    go None a e = cc
+    go (Some q) a e = by_check q a (checked 0 None records) refl e
+
+pub scored_all : (region : Region) (records : List Segment) (score : ℤ) → Accepted region records score → region_answer region records ≡ Ok score
 unfolding region_answer
 scored_all region records score a =
-    let none = eq-eqb (first_fault 0 blank records).number 0 (clean_lines records a.lines) in
-    rw (a.in_range, none, a.is) refl
+    let n = a.lines in
+    rw (a.asked, lines_checked 0 None records (record { few = omega (arith, n.few); each = n.each; ordered = n.ordered }), a.is) refl

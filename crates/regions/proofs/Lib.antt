@@ -1,3 +1,2 @@
-pub mod Totals
-pub mod Scores
-pub mod Parts
+mod Totals
+pub mod Held

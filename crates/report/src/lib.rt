@@ -6,10 +6,9 @@ ghost use Rattle.std.specs.Prelude.{◌≡◌, ◌≤◌, ◌<◌, length, take,
 ghost use Rattle.std.specs.Io.KnownBytes.{Consumes, IsAtEnd};
 ghost use Rattle.io.specs.Counts.{IsPrefixLen};
 
-use liivokarp::Reply;
-use printing::{push, push_field, push_number, push_signed};
+use arrayvec::ArrayVec;
 use std::io;
-use std::io::{ErrorKind, Read};
+use std::io::{ErrorKind, Read, Write};
 
 // One byte more than a sheet may have, to tell a sheet that is too long.
 pub fn sheet_room() -> [u8; 65537] {
@@ -23,6 +22,7 @@ fn read_some<R: Read>(reader: &mut R, bytes: &mut [u8]) -> io::Result<usize>
     ensures taken { IfOk result (λ n. Consumes (R.remaining reader.old) (R.remaining reader.new) (take n bytes.new)) }
     ensures all { IfOk result (λ n. n ≡ 0 → 0 < length bytes.new → IsAtEnd (R.remaining reader.new)) }
 {
+    // The count only bounds the loop, so that it ends; no run comes to it.
     for _ in 0..u64::MAX {
         match reader.read(bytes) {
             Ok(n) => return Ok(n),
@@ -55,79 +55,29 @@ pub fn read_full<R: Read>(reader: &mut R, bytes: &mut [u8]) -> io::Result<usize>
 }
 
 // A reply has at most 84 bytes, and each of the 1,026 lines that may stand under it at most 33.
-pub fn report_room() -> [u8; 33942] {
-    [0u8; 33942]
-}
+pub type Report = ArrayVec<u8, 33942>;
 
-pub fn push_reply(out: &mut [u8], at: usize, reply: Reply) -> usize
-    requires { at ≤ length out.old }
-    ensures { IsPrefixLen result out.new }
-{
-    let mut end = push_number(out, at, reply.number);
-    end = push_field(out, end, reply.place);
-    end = push(out, end, b" ");
-    end = push_signed(out, end, reply.score);
-    end = push_field(out, end, reply.count);
-    push(out, end, b"\n")
-}
-
-// What a column says of a candidate, or 0 where there is no such candidate.
-fn entry(column: &[u32; 1026], number: u32) -> u32 {
-    let k = number as usize;
-    if k < 1026 {
-        return column[k];
-    }
-    0
-}
-
-fn push_candidate(out: &mut [u8], at: usize, number: u32, kind: u32, position: u32) -> usize
-    requires { at ≤ length out.old }
-    ensures { IsPrefixLen result out.new }
-{
-    let mut end = push_number(out, at, number as u64);
-    end = push_field(out, end, kind as u64);
-    end = push_field(out, end, position as u64);
-    push(out, end, b"\n")
-}
-
-fn push_chain<'a>(
-    out: &mut [u8],
-    at: usize,
-    chain: &'a [u32],
-    kind: &'a [u32; 1026],
-    position: &'a [u32; 1026],
-) -> usize
-    requires { at ≤ length out.old }
-    ensures { IsPrefixLen result out.new }
-{
-    let mut end = at;
-    let mut i = 0;
-    while i < chain.len() {
-        let number = chain[i];
-        end = push_candidate(
-            out,
-            end,
-            number,
-            entry(kind, number),
-            entry(position, number),
-        );
-        i += 1;
-    }
-    end
-}
-
-// The reply to a sheet and the chain that comes with it. The chain's buffer is as long as a chain can be.
-pub fn push_report(out: &mut [u8], at: usize, bytes: &[u8]) -> usize
-    requires { at ≤ length out.old }
-    ensures { IsPrefixLen result out.new }
-{
+// The reply to a sheet, and under it the chain that comes with it. The chain's buffer is as long as a chain can be.
+pub fn write_report<W: Write>(out: &mut W, bytes: &[u8]) -> io::Result<()> {
     let mut chain = [0u32; 1026];
     let reply = liivokarp::lk_assemble(bytes, &mut chain);
-    let count = reply.count as usize;
-    let end = push_reply(out, at, reply);
-    if count > chain.len() {
-        return end;
+    writeln!(out, "{reply}")?;
+    write_chain(out, bytes, &chain, reply.count as usize)
+}
+
+// A line for each of the first `count` entries of a chain: its number, type and position. Not inlined, so that the sheet that is read here does not stand on the stack
+// while the chain is looked for.
+#[inline(never)]
+fn write_chain<W: Write>(out: &mut W, bytes: &[u8], chain: &[u32], count: usize) -> io::Result<()> {
+    let Ok(sheet) = sheet::read(bytes) else {
+        return Ok(());
+    };
+    let candidates = sheet.candidates();
+    for number in chain.iter().take(count) {
+        let Some(candidate) = candidates.as_slice().get(*number as usize) else {
+            return Ok(());
+        };
+        writeln!(out, "{number} {} {}", candidate.kind, candidate.position)?;
     }
-    let columns = sheet::read(bytes);
-    push_chain(out, end, &chain[..count], &columns.kind, &columns.position)
+    Ok(())
 }

@@ -1,4 +1,5 @@
-pub mod Picking
+pub mod Maxima
 pub mod Shares
+pub mod Bases
 pub mod Plateaus
-pub mod Rates
+pub mod Ranges

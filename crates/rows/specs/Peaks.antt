@@ -1,33 +1,16 @@
--- Method 2 over columns: the rate stands in the place of the score, so that three columns are enough. The largest number at a base is its peak.
--- That the peak of rated segments is the largest rate is `peak_rated`, in the proofs.
-use Rattle.std.specs.Prelude.{◌≡◌, cond, List, map, ℕ, ◌≤◌, ◌<◌, ℤ, pos}
+-- Method 2 from plateau to plateau: the largest rate at a base is the same up to the next base at which some segment starts, or after which one ends.
+use Rattle.std.specs.Prelude.{◌≡◌, List, ℕ, ◌≤◌, ◌<◌, ℤ}
 use Rattle.gaze.specs.declared.Segment.{Segment}
-use Rattle.gaze.specs.Lists.{keep}
-use Rattle.gaze.specs.SegmentScore.{enters, holds, largest, rate}
-use Rattle.rows.specs.Rows.{stretch}
+use Rattle.gaze.specs.SegmentScore.{holds, largest_rate}
 
-abbrev pub rated : Segment → Segment
-rated g = record { kind = g.kind; start = g.start; end = g.end; score = rate g }
-
--- What a segment gives at the base x: its number where it holds x, else 0.
-abbrev pub held : ℕ → Segment → ℤ
-held x g = cond (holds x g) g.score (pos 0)
-
-abbrev pub peak : List Segment → ℕ → ℤ
-peak segments x = largest (map (held x) (keep (enters x x) segments))
-
--- ---- from one edge of a segment to the next nothing changes
-pub record Edge (x next start end : ℕ) : Type 0 where
-  pub same : (y : ℕ) → x ≤ y → y < next → holds y (stretch start end (pos 0)) ≡ holds x (stretch start end (pos 0))
-
-pub record Edged (x before start end next : ℕ) : Type 0 where
+-- A segment that holds x holds every base up to `next`, and one that does not holds none of them.
+pub record Edge (g : Segment) (x next : ℕ) : Type 0 where
   pub after : x < next
-  pub within : next ≤ before
-  pub edge : Edge x next start end
+  pub same : (y : ℕ) → x ≤ y → y < next → holds y g ≡ holds x g
 
--- The peak at x, which is the peak of every base up to `next`.
+-- The largest rate at x, which is that of every base up to `next`.
 pub record Flat (segments : List Segment) (x to : ℕ) (value : ℤ) (next : ℕ) : Type 0 where
-  pub is : value ≡ peak segments x
+  pub is : value ≡ largest_rate segments x
   pub after : x < next
   pub within : next ≤ to
-  pub same : (y : ℕ) → x ≤ y → y < next → peak segments y ≡ peak segments x
+  pub same : (y : ℕ) → x ≤ y → y < next → largest_rate segments y ≡ largest_rate segments x

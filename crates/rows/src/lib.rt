@@ -1,303 +1,198 @@
-// The score of rows of segments over one region, by either method. Columns hold a segment's start, end and score, or its rate in the place of the
-// score; `lo` to `hi` are rows, `hi` left out. All rows count: which do, another crate says.
+// The score of segments over one region, by either method. All of the rows count: which do, another crate says.
 
 #![tactic(auto)]
 
-ghost use Rattle.std.specs.Prelude.{◌≡◌, true, false, ℕ, ◌+◌, ◌-◌, ◌<◌, ◌≤◌, min, max, length};
-ghost use Rattle.gaze.specs.SegmentScore.{enters, share, largest_share, rate, sum_over};
-ghost use Rattle.rows.specs.Rows.{stretch, rows, Good, Sound, scored, Rated};
-ghost use Rattle.rows.specs.Maximum.{Looked, Beaten};
-ghost use Rattle.rows.specs.Peaks.{held, peak, Edged, Flat};
+ghost use Rattle.std.specs.Prelude.{◌≡◌, ◌-◌, ◌<◌, ◌≤◌, nat_abs};
+ghost use Rattle.gaze.specs.SegmentScore.{share, largest_share, rate_at, largest_rate, sum_over};
+ghost use Rattle.rows.specs.Rows.{Good, scored};
+ghost use Rattle.rows.specs.Maximum.{larger_with, can_win};
+ghost use Rattle.rows.specs.Peaks.{Edge, Flat};
 
-// ---- a maximum, taken number by number
+use gaze::Segment;
+use std::marker::Model;
 
-// Whether there was a number, and the largest, or 0.
+// A segment on the longest sequence, with its rate. To contracts it is the segment.
 #[derive(Clone, Copy)]
-pub struct Largest {
-    pub any: bool,
-    pub value: i64,
+pub struct Row {
+    pub segment: Segment,
+    pub rate: i64,
 }
 
-fn take(largest: Largest, z: i64) -> Largest
-    ensures { Looked true largest.any largest.value z result.any result.value }
+impl Model for Row {
+    ghost use Rattle.gaze.specs.declared.Segment.{Segment};
+
+    ghost Value = { Segment };
+
+    ghost use Rattle.rows.specs.Rows.{IsRated, row_of};
+
+    ghost view = { λ r. r.segment };
+
+    ghost invariant = { IsRated };
+
+    ghost inverse = { row_of };
+}
+
+impl Default for Row {
+    fn default() -> Row {
+        Row {
+            segment: Segment {
+                kind: 0,
+                start: 1,
+                end: 1,
+                score: 0,
+            },
+            rate: 0,
+        }
+    }
+}
+
+impl Row {
+    pub fn of(segment: Segment) -> Row
+        requires { Good segment }
+        ensures { result ≡ segment }
+    {
+        let bases = segment.end + 1 - segment.start;
+        Row {
+            segment,
+            rate: whole::floor(whole::times(segment.score, 1000), bases),
+        }
+    }
+}
+
+// The larger of a maximum, where there is one yet, and one more number.
+fn larger_with(largest: Option<i64>, z: i64) -> i64
+    ensures { result ≡ larger_with largest z }
 {
-    if !largest.any {
-        return Largest {
-            any: true,
-            value: z,
-        };
-    }
-    if whole::at_most(largest.value, z) {
-        return Largest {
-            any: true,
-            value: z,
-        };
-    }
-    Largest {
-        any: true,
-        value: largest.value,
+    match largest {
+        Some(value) => whole::larger(value, z),
+        None => z,
     }
 }
 
 // ---- method 1
 
-fn smaller(a: u32, b: u32) -> u32
-    ensures { result ≡ min a b }
-{
-    if a < b { a } else { b }
-}
-
-fn larger(a: u32, b: u32) -> u32
-    ensures { result ≡ max a b }
-{
-    if a < b { b } else { a }
-}
-
-// The share of a segment that an edge of the region may cut.
-fn cut_share(a: u32, b: u32, start: u32, end: u32, score: i64) -> i64
-    requires good { Good 10000000 start end score }
+// The share of a segment: divided only where an edge of the region cuts it.
+fn share(segment: &Segment, a: u32, b: u32) -> i64
+    requires good { Good segment.now }
     requires ordered { a ≤ b }
-    requires begun { start ≤ b }
-    requires not_past { a ≤ end }
-    ensures { result ≡ share a b (stretch start end score) }
+    ensures { result ≡ share a b segment.now }
 {
-    let from = larger(a, start);
-    let to = smaller(b, end);
-    let worth = whole::times(score, to + 1 - from);
-    whole::floor(worth, end + 1 - start)
-}
-
-// The share of a segment that touches the region: divided only where an edge cuts it.
-fn touching_share(a: u32, b: u32, start: u32, end: u32, score: i64) -> i64
-    requires good { Good 10000000 start end score }
-    requires ordered { a ≤ b }
-    requires begun { start ≤ b }
-    requires not_past { a ≤ end }
-    ensures { result ≡ share a b (stretch start end score) }
-{
-    if start < a {
-        return cut_share(a, b, start, end, score);
+    if b < segment.start || segment.end < a {
+        return 0;
     }
-    if b < end {
-        return cut_share(a, b, start, end, score);
+    if a <= segment.start && segment.end <= b {
+        return segment.score;
     }
-    score
+    let overlap = b.min(segment.end) + 1 - a.max(segment.start);
+    let size = segment.end + 1 - segment.start;
+    whole::floor(whole::times(segment.score, overlap), size)
 }
 
 // Whether a share of `score` can change the maximum: no share is above both its score and 0.
-fn can_win(largest: Largest, score: i64) -> bool
-    ensures { result ≡ false → Beaten largest.any largest.value score }
+fn can_win(largest: Option<i64>, score: i64) -> bool
+    ensures { result ≡ can_win largest score }
 {
-    if !largest.any {
-        return true;
+    match largest {
+        Some(value) => value < 0 || value < score,
+        None => true,
     }
-    if whole::below(largest.value, 0) {
-        return true;
-    }
-    if whole::at_most(score, largest.value) {
-        return false;
-    }
-    true
 }
 
-// One more segment.
-fn take_share(largest: Largest, a: u32, b: u32, start: u32, end: u32, score: i64) -> Largest
-    requires good { Good 10000000 start end score }
-    requires ordered { a ≤ b }
-    ensures { Looked (enters a b (stretch start end score)) largest.any largest.value (share a b (stretch start end score)) result.any result.value }
+// The largest share among the rows.
+pub fn best_share(rows: &[Row], a: u32, b: u32) -> i64
+    requires { a ≤ b }
+    ensures { result ≡ largest_share a b rows.now }
 {
-    if b < start {
-        return take(largest, 0);
+    let mut largest = None;
+    for row in rows {
+        if can_win(largest, row.segment.score) {
+            largest = Some(larger_with(largest, share(&row.segment, a, b)));
+        }
     }
-    if end < a {
-        return take(largest, 0);
-    }
-    if can_win(largest, score) {
-        return take(largest, touching_share(a, b, start, end, score));
-    }
-    largest
-}
-
-// The largest share among rows `lo` to `hi`.
-pub fn best_share<'a>(
-    start: &'a [u32],
-    end: &'a [u32],
-    score: &'a [i64],
-    lo: usize,
-    hi: usize,
-    a: u32,
-    b: u32,
-) -> i64
-    requires sound { Sound 10000000 start.now end.now score.now lo hi }
-    requires ordered { a ≤ b }
-    ensures { (kind : ℕ) → result ≡ largest_share a b (rows kind start.now end.now score.now lo hi) }
-{
-    let mut largest = Largest {
-        any: false,
-        value: 0,
-    };
-    let mut i = lo;
-    while i < hi {
-        largest = take_share(largest, a, b, start[i], end[i], score[i]);
-        i += 1;
-    }
-    largest.value
+    largest.unwrap_or(0)
 }
 
 // ---- method 2
 
-// One more segment, at the base `x`.
-fn take_rate(largest: Largest, x: u32, start: u32, end: u32, rate: i64) -> Largest
-    ensures { Looked (enters x x (stretch start end rate)) largest.any largest.value (held x (stretch start end rate)) result.any result.value }
+// What a row gives at the base `x`: its rate where it holds `x`, else 0.
+fn rate_at(row: &Row, x: u32) -> i64
+    ensures { result ≡ rate_at x row.now }
 {
-    if x < start {
-        return take(largest, 0);
+    if row.segment.start <= x && x <= row.segment.end {
+        row.rate
+    } else {
+        0
     }
-    if end < x {
-        return take(largest, 0);
-    }
-    take(largest, rate)
 }
 
-// The next base, up to `next`, from which the segment may give something else than at `x`.
-fn edge(x: u32, start: u32, end: u32, next: u32) -> u32
-    requires ahead { x < next }
-    requires bounded { end ≤ 4000000 }
-    ensures { Edged x next start end result }
+// The next base at which a segment gives something else than at `x`; `to` where there is none.
+fn edge(segment: &Segment, x: u32, to: u32) -> u32
+    requires good { Good segment.now }
+    requires ahead { x < to }
+    ensures { Edge segment.now x result }
 {
-    if x < start {
-        return smaller(next, start);
+    if x < segment.start {
+        segment.start
+    } else if x <= segment.end {
+        segment.end + 1
+    } else {
+        to
     }
-    if end < x {
-        return next;
-    }
-    smaller(next, end + 1)
 }
 
-// A peak, and the base up to which it stays the same.
+// The largest rate at a base, and the base up to which it stays the same.
 #[derive(Clone, Copy)]
 pub struct Plateau {
     pub value: i64,
     pub next: u32,
 }
 
-// The peak at `x` among rows `lo` to `hi`.
-pub fn flat_from<'a>(
-    start: &'a [u32],
-    end: &'a [u32],
-    rate: &'a [i64],
-    lo: usize,
-    hi: usize,
-    x: u32,
-    to: u32,
-) -> Plateau
-    requires sound { Sound 10000000000 start.now end.now rate.now lo hi }
-    requires ahead { x < to }
-    ensures { (kind : ℕ) → Flat (rows kind start.now end.now rate.now lo hi) x to result.value result.next }
+// The plateau of the rows at `x`.
+pub fn flat_from(rows: &[Row], x: u32, to: u32) -> Plateau
+    requires { x < to }
+    ensures flat { Flat rows.now x to result.value result.next }
+    ensures small { nat_abs result.value ≤ 10000000000 }
 {
-    let mut largest = Largest {
-        any: false,
-        value: 0,
-    };
+    let mut largest = None;
     let mut next = to;
-    let mut i = lo;
-    while i < hi {
-        largest = take_rate(largest, x, start[i], end[i], rate[i]);
-        next = edge(x, start[i], end[i], next);
-        i += 1;
+    for row in rows {
+        largest = Some(larger_with(largest, rate_at(row, x)));
+        next = next.min(edge(&row.segment, x, to));
     }
     Plateau {
-        value: largest.value,
+        value: largest.unwrap_or(0),
         next,
     }
 }
 
-// A sum of peaks up to the base `at`, which is left out.
-#[derive(Drop)]
-pub struct Sum {
-    pub at: u32,
-    pub sum: i64,
-}
-
-// The sum of the peaks from `from` to `to`, which is left out: from edge to edge, never base by base.
-pub fn sum_peaks<'a>(
-    start: &'a [u32],
-    end: &'a [u32],
-    rate: &'a [i64],
-    lo: usize,
-    hi: usize,
-    from: u32,
-    to: u32,
-) -> i64
-    requires sound { Sound 10000000000 start.now end.now rate.now lo hi }
+// The sum of the largest rates from `from` to `to`, which is left out: from plateau to plateau, never base by base.
+pub fn sum_rates(rows: &[Row], from: u32, to: u32) -> i64
     requires ordered { from ≤ to }
     requires bounded { to ≤ 4000001 }
-    ensures { (kind : ℕ) → result ≡ sum_over (peak (rows kind start.now end.now rate.now lo hi)) from (to - from) }
+    ensures { result ≡ sum_over (largest_rate rows.now) from (to - from) }
 {
-    let mut walked = Sum { at: from, sum: 0 };
-    while walked.at < to {
-        let x = walked.at;
-        let flat = flat_from(start, end, rate, lo, hi, x, to);
-        let gained = whole::times(flat.value, flat.next - x);
-        walked = Sum {
-            at: flat.next,
-            sum: whole::plus(walked.sum, gained),
-        };
+    let mut at = from;
+    let mut sum = 0;
+    // A `while`, since it jumps from plateau to plateau and counts nothing.
+    while at < to {
+        let plateau = flat_from(rows, at, to);
+        let gained = whole::times(plateau.value, plateau.next - at);
+        sum = whole::plus(sum, gained);
+        at = plateau.next;
     }
-    walked.sum
-}
-
-fn rate_of(start: u32, end: u32, score: i64) -> i64
-    requires { Good 10000000 start end score }
-    ensures { result ≡ rate (stretch start end score) }
-{
-    whole::floor(whole::times(score, 1000), end + 1 - start)
-}
-
-// The rates of rows `lo` to `hi`.
-pub fn fill_rates<'a>(
-    start: &'a [u32],
-    end: &'a [u32],
-    score: &'a [i64],
-    lo: usize,
-    hi: usize,
-    rate: &mut [i64],
-)
-    requires sound { Sound 10000000 start.now end.now score.now lo hi }
-    requires room { hi ≤ length rate.old }
-    ensures { Rated start.now end.now score.now lo hi rate.new }
-{
-    let mut i = lo;
-    while i < hi {
-        rate[i] = rate_of(start[i], end[i], score[i]);
-        i += 1;
-    }
+    sum
 }
 
 // ---- either method
 
-// The score of rows `lo` to `hi`, which are all chosen, by either method.
-pub fn score_rows<'a>(
-    start: &'a [u32],
-    end: &'a [u32],
-    score: &'a [i64],
-    rate: &'a [i64],
-    lo: usize,
-    hi: usize,
-    method: u32,
-    s: u32,
-    t: u32,
-) -> i64
-    requires sound { Sound 10000000 start.now end.now score.now lo hi }
-    requires rated { Rated start.now end.now score.now lo hi rate.now }
-    requires room { hi ≤ length rate.now }
+// The score of the rows, which are all chosen, by either method.
+pub fn score_rows(rows: &[Row], method: u32, s: u32, t: u32) -> i64
     requires ordered { s ≤ t }
     requires bounded { t ≤ 4000000 }
-    ensures { (kind : ℕ) → result ≡ scored method s t (rows kind start.now end.now score.now lo hi) }
+    ensures { result ≡ scored method s t rows.now }
 {
     if method == 1 {
-        return best_share(start, end, score, lo, hi, s, t);
+        return best_share(rows, s, t);
     }
-    let sum = sum_peaks(start, end, rate, lo, hi, s, t + 1);
-    whole::floor(sum, 1000)
+    whole::floor(sum_rates(rows, s, t + 1), 1000)
 }

@@ -1,3 +1,3 @@
-pub mod Index
-pub mod Interrupters
-pub mod Steps
+pub mod Table
+pub mod LastSeen
+pub mod Order

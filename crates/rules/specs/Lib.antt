@@ -1,1 +1,4 @@
-pub mod Tables
+pub mod Rules
+pub mod Interrupters
+pub mod Table
+pub mod LastSeen

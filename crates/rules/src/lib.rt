@@ -3,164 +3,147 @@
 
 #![tactic(auto)]
 
-ghost use Rattle.std.specs.Prelude.{◌≡◌, ◌||◌, ◌&&◌, ℕ, ◌+◌, ◌*◌, ◌-◌, ◌<◌, ◌≤◌, eqb, length};
-ghost use Rattle.gaze.specs.Sheet.{Sheet, candidate, end_number};
-ghost use Rattle.gaze.specs.Step.{meets_distance, meets_phase};
-ghost use Rattle.gaze.specs.Ranges.{InRange, InterruptionRanges};
-ghost use Rattle.gaze.specs.Columns.{interruption_of, rule_at, Candidates};
-ghost use Rattle.rules.specs.Tables.{Typed, Indexed, LastSeen, seen, met, looked_up, Lookup, Placement, Legality, Target, LegalRow};
+ghost use Rattle.std.specs.Prelude.{◌≡◌, ◌<◌, ◌≤◌, IfSome};
+ghost use Rattle.gaze.specs.Lists.{first_of};
+ghost use Rattle.gaze.specs.Step.{meets, meets_distance, meets_phase, interrupted};
+ghost use Rattle.gaze.specs.Ranges.{Group, RuleRanges, rule_keys, FeatureRanges, feature_keys, InterruptionRanges};
+ghost use Rattle.rules.specs.Rules.{of_types, pair_number};
 
-use gaze::{Interruption, Rule};
+use gaze::{Feature, Interruption, Rule};
+use std::marker::Model;
 
-fn interruption_of(kind: u32, of: u32, remainder: u32) -> Interruption
-    ensures { result ≡ interruption_of kind of remainder }
-{
-    if kind == 0 {
-        return Interruption::None;
-    }
-    if kind == 1 {
-        return Interruption::FromSource {
-            kind: of,
-            remainder,
-        };
-    }
-    Interruption::FromTarget {
-        kind: of,
-        remainder,
-    }
+// The rules of a sheet. At 32 × source type + target type stands which of them the pair has. To contracts it is the list of the rules.
+#[derive(Drop)]
+pub struct Rules<'a> {
+    rules: &'a [Rule],
+    table: [Option<u8>; 1024],
 }
 
-pub fn rule_at(rows: &[u32], k: usize) -> Rule
-    requires { 9 * k + 9 ≤ length rows.now }
-    ensures { result ≡ rule_at rows.now k }
-{
-    let b = 9 * k;
-    let interruption = interruption_of(rows[b + 5], rows[b + 6], rows[b + 7]);
-    Rule {
-        source: rows[b],
-        target: rows[b + 1],
-        min: rows[b + 2],
-        max: rows[b + 3],
-        phase: rows[b + 4],
-        interruption,
-        function: rows[b + 8],
-    }
+impl<'a> Model for Rules<'a> {
+    ghost use Rattle.std.specs.Prelude.{List};
+    ghost use Rattle.gaze.specs.declared.Rule.{Rule};
+
+    ghost Value = { List Rule };
+
+    ghost use Rattle.rules.specs.Table.{IsTabled};
+
+    ghost view = { λ r. r.rules.now };
+
+    ghost invariant = { IsTabled };
 }
 
-// At 32 × source type + target type the number of the rule, from 1; 0 where there is none. Filled from the last rule down, so that the
-// first one stays.
-pub fn rule_table(rows: &[u32], count: usize) -> [u32; 1024]
-    requires { Typed rows.now count }
-    ensures { Indexed rows.now 0 count result }
-{
-    let mut table = [0u32; 1024];
-    let mut k = count;
-    while 0 < k {
-        k -= 1;
-        let pair = 32 * rows[9 * k] + rows[9 * k + 1];
-        table[pair as usize] = (k + 1) as u32;
-    }
-    table
-}
-
-// For each type and class, at 3 × type + class, the last position before candidate `t` at which such a feature stands.
-fn last_interrupters<'a>(kind: &'a [u32], position: &'a [u32], t: usize) -> [u32; 96]
-    requires { Placement kind.now position.now t }
-    ensures { (sheet : Sheet) → InRange sheet → Candidates sheet kind.now position.now → t ≤ end_number sheet → LastSeen sheet.features (candidate sheet t) result }
-{
-    let mut last = [0u32; 96];
-    let p = position[t];
-    let mut i = 1;
-    while i < t {
-        let q = position[i];
-        if p <= q {
-            return last;
+impl<'a> Rules<'a> {
+    pub fn of(rules: &'a [Rule]) -> Rules<'a>
+        requires { Group 256 RuleRanges rule_keys rules.now }
+        ensures { result ≡ rules.now }
+    {
+        let mut table = [None; 1024];
+        // No two rules are of one pair, so none takes another's place.
+        for (i, rule) in rules.iter().enumerate() {
+            table[pair_of(rule.source, rule.target)] = Some(i as u8);
         }
-        last[(3 * kind[i] + q % 3) as usize] = q;
-        i += 1;
+        Rules { rules, table }
     }
-    last
+
+    // The rule of a pair of types, if there is one.
+    pub fn of_types(&self, source: u32, target: u32) -> Option<Rule>
+        requires source_type { source < 32 }
+        requires target_type { target < 32 }
+        ensures rule { result ≡ first_of (of_types source target) self.now }
+        ensures ranged { IfSome result RuleRanges }
+    {
+        let i = self.table[pair_of(source, target)]?;
+        Some(self.rules[i as usize])
+    }
 }
 
-fn interrupted(i: Interruption, s: u32, t: u32, last: &[u32; 96]) -> bool
-    requires ranged { InterruptionRanges i }
-    requires source_within { s ≤ 4000000 }
-    requires target_within { t ≤ 4000000 }
-    ensures { result ≡ seen i s t last.now }
-{
-    match i {
-        Interruption::None => false,
-        Interruption::FromSource { kind, remainder } => {
-            s < last[(3 * kind + (s + remainder) % 3) as usize]
+// A target, with the last position before it at which a feature of each type stands at each remainder modulo 3; 0, beyond no source, where there
+// is none. To contracts it is the sheet's features and the target.
+#[derive(Drop)]
+pub struct Interrupters<'a> {
+    features: &'a [Feature],
+    target: Feature,
+    // Without an `Option`, which was not plainer: positions begin at 1, so that with 0 for none one comparison decides.
+    last: [[u32; 3]; 32],
+}
+
+impl<'a> Model for Interrupters<'a> {
+    ghost use Rattle.rules.specs.Interrupters.{Ended};
+
+    ghost Value = { Ended };
+
+    ghost use Rattle.rules.specs.LastSeen.{IsLastSeen};
+
+    ghost view = { λ i. record { features = i.features.now; target = i.target } };
+
+    ghost invariant = { IsLastSeen };
+}
+
+impl<'a> Interrupters<'a> {
+    pub fn before(features: &'a [Feature], target: Feature) -> Interrupters<'a>
+        requires { Group 1024 (FeatureRanges 4000000) feature_keys features.now }
+        ensures { result ≡ record { features = features.now; target = target } }
+    {
+        let count = features.partition_point(|feature| feature.position < target.position);
+        let mut last = [[0; 3]; 32];
+        for feature in &features[..count] {
+            last[feature.kind as usize][(feature.position % 3) as usize] = feature.position;
         }
-        Interruption::FromTarget { kind, remainder } => {
-            s < last[(3 * kind + (t + 2 * remainder) % 3) as usize]
+        Interrupters {
+            features,
+            target,
+            last,
         }
     }
+
+    // Whether a source and the target meet all of a rule.
+    pub fn meets(&self, rule: &Rule, source: &Feature) -> bool
+        requires ranged { RuleRanges rule.now }
+        requires ordered { source.now.position ≤ self.now.target.position }
+        requires within { self.now.target.position ≤ 4000000 }
+        ensures { result ≡ meets self.now.features rule.now source.now self.now.target }
+    {
+        let distance = self.target.position - source.position;
+        meets_distance(rule, distance)
+            && meets_phase(rule, distance)
+            && !self.interrupted(rule.interruption, source)
+    }
+
+    // Whether one stands between: the last one before the target lies beyond the source.
+    fn interrupted(&self, interruption: Interruption, source: &Feature) -> bool
+        requires ranged { InterruptionRanges interruption }
+        requires ordered { source.now.position ≤ self.now.target.position }
+        requires within { self.now.target.position ≤ 4000000 }
+        ensures { result ≡ interrupted self.now.features interruption source.now self.now.target }
+    {
+        let s = source.position;
+        match interruption {
+            Interruption::None => false,
+            Interruption::FromSource { kind, remainder } => {
+                s < self.last[kind as usize][((s + remainder) % 3) as usize]
+            }
+            // Twice the remainder is added to the target's position: modulo 3 that takes it away.
+            Interruption::FromTarget { kind, remainder } => {
+                s < self.last[kind as usize][((self.target.position + 2 * remainder) % 3) as usize]
+            }
+        }
+    }
 }
 
-// Whether a source at `s` and a target at `t` meet all of the rule.
-fn meets(rule: Rule, s: u32, t: u32, last: &[u32; 96]) -> bool
-    requires ranged { InterruptionRanges rule.interruption }
-    requires ordered { s ≤ t }
-    requires within { t ≤ 4000000 }
-    ensures { result ≡ met rule s t last.now }
+fn pair_of(source: u32, target: u32) -> usize
+    ensures { result ≡ pair_number source target }
 {
-    let d = t - s;
-    if d < rule.min {
-        return false;
-    }
-    if rule.max < d {
-        return false;
-    }
-    let i = rule.interruption;
-    ((rule.phase == 3) | (d % 3 == rule.phase)) & !interrupted(i, s, t, last)
+    32 * source as usize + target as usize
 }
 
-// Whether the step from a source of type `source` at `s` to a target of type `target` at `t` is legal.
-fn is_legal<'a>(
-    rules: &'a [u32],
-    table: &'a [u32],
-    source: u32,
-    target: u32,
-    s: u32,
-    t: u32,
-    last: &'a [u32; 96],
-) -> bool
-    requires { Lookup rules.now table.now source target s t }
-    ensures { result ≡ looked_up rules.now table.now source target s t last.now }
+fn meets_distance(rule: &Rule, distance: u32) -> bool
+    ensures { result ≡ meets_distance rule.now distance }
 {
-    let k = table[(32 * source + target) as usize] as usize;
-    if k == 0 {
-        return false;
-    }
-    meets(rule_at(rules, k - 1), s, t, last)
+    rule.min <= distance && distance <= rule.max
 }
 
-// Whether each step from `lo` to `hi`, which is left out, into candidate `t` is legal.
-pub fn legal_row<'a>(
-    kind: &'a [u32],
-    position: &'a [u32],
-    rules: &'a [u32],
-    table: &'a [u32],
-    t: usize,
-    lo: usize,
-    hi: usize,
-    legal: &mut [bool],
-)
-    requires target { Target kind.now position.now rules.now table.now t }
-    requires ordered { lo ≤ hi }
-    requires before_target { hi ≤ t }
-    requires room { hi ≤ length legal.old }
-    ensures same_length { length legal.new ≡ length legal.old }
-    ensures legality { (sheet : Sheet) → Legality sheet kind.now position.now rules.now table.now → t ≤ end_number sheet → LegalRow sheet t lo hi legal.new }
+fn meets_phase(rule: &Rule, distance: u32) -> bool
+    ensures { result ≡ meets_phase rule.now distance }
 {
-    let last = last_interrupters(kind, position, t);
-    let target = kind[t];
-    let p = position[t];
-    let mut s = lo;
-    while s < hi {
-        legal[s] = is_legal(rules, table, kind[s], target, position[s], p, &last);
-        s += 1;
-    }
+    rule.phase == 3 || distance % 3 == rule.phase
 }

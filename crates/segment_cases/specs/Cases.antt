@@ -2,7 +2,7 @@
 use Rattle.std.specs.Prelude.{List, [], ◌∷◌, ℕ, ℤ, pos, negsuc}
 use Rattle.gaze.specs.declared.Segment.{Segment}
 
-abbrev segment : ℕ → ℕ → ℕ → ℤ → Segment
+abbrev pub segment : ℕ → ℕ → ℕ → ℤ → Segment
 segment kind start end score = record { kind = kind; start = start; end = end; score = score }
 
 abbrev pub cases : List Segment

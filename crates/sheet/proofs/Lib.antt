@@ -1,4 +1,3 @@
-pub mod Answering
 pub mod Ranged
 pub mod Outcomes
 mod Examples

@@ -1,32 +1,54 @@
--- What a caller of `read` knows by the number: a sheet, in range, that the columns hold, or the refusal.
-use mathlib.Core.Path.{◌≡◌, refl, sym, ◌∙◌}
-use mathlib.Core.List.{List}
-use Prim.Native.Nat.{ℕ}
+-- What a caller of `read` knows by the number alone, which is 0 of a sheet: a sheet, in range, or the refusal.
+use Rattle.std.proofs.Common.{List, ◌≡◌, refl, sym, ◌∙◌, ℕ, Result, Ok, Err}
 use Rattle.gaze.specs.Sheet.{Sheet}
 use Rattle.gaze.specs.Ranges.{InRange}
-use Rattle.sheet.specs.declared.Columns.{Columns}
-use Rattle.sheet.specs.Reading.{Reading, refused, accepted, reading}
-use Rattle.sheet.specs.Held.{Holds, Answers}
-use Rattle.sheet.proofs.Ranged.{in_range_of_accepted, refused_by_number}
+use Rattle.refusal.specs.declared.Reason.{Reason}
+use Rattle.refusal.specs.declared.Reason.TheVariants.{Size, Trailer, Malformed, Range, Disorder, Link, Crowded, NoRoom, NoStructure, NoChain, BadStep}
+use Rattle.refusal.specs.declared.Refusal.{Refusal}
+use Rattle.refusal.specs.Numbers.{number_of}
+use Rattle.sheet.specs.Reading.{reading}
+use Rattle.sheet.proofs.Ranged.{in_range_of_accepted}
 
-pub record Accepted (bytes : List ℕ) (c : Columns) : Type 0 where
+abbrev pub number : Result Sheet Refusal → ℕ
+number (Ok sheet) = 0
+number (Err refusal) = number_of refusal.reason
+
+pub record Accepted (bytes : List ℕ) (r : Result Sheet Refusal) : Type 0 where
   pub sheet : Sheet
-  pub is : reading bytes ≡ accepted sheet
-  pub place : c.place ≡ 0
-  pub holds : Holds sheet c
+  pub is : reading bytes ≡ Ok sheet
+  pub holds : r ≡ Ok sheet
   pub in_range : InRange sheet
 
-module _ (bytes : List ℕ) (c : Columns) (a : Answers (reading bytes) c) where
-  pub when_accepted : c.number ≡ 0 → Accepted bytes c
-  when_accepted z = go (reading bytes) refl a
-    where
-      go : (r : Reading) → reading bytes ≡ r → Answers r c → Accepted bytes c
-      go (refused number place) e h = absurd (refused_by_number bytes number place e (sym h.0 ∙ z))
-      go (accepted sheet) e h = record { sheet = sheet; is = e; place = h.1; holds = h.2; in_range = in_range_of_accepted bytes sheet e }
+pub record Refused (bytes : List ℕ) (r : Result Sheet Refusal) : Type 0 where
+  pub refusal : Refusal
+  pub is : reading bytes ≡ Err refusal
+  pub holds : r ≡ Err refusal
 
-  pub when_refused : (c.number ≡ 0 → ⊥) → reading bytes ≡ refused c.number c.place
-  when_refused z = go (reading bytes) refl a
+-- No refusal has the number of a sheet.
+pub refused_by_number : (reason : Reason) → number_of reason ≡ 0 → ⊥
+refused_by_number Size e = cc
+refused_by_number Trailer e = cc
+refused_by_number Malformed e = cc
+refused_by_number Range e = cc
+refused_by_number Disorder e = cc
+refused_by_number Link e = cc
+refused_by_number Crowded e = cc
+refused_by_number NoRoom e = cc
+refused_by_number NoStructure e = cc
+refused_by_number NoChain e = cc
+refused_by_number BadStep e = cc
+
+module _ (bytes : List ℕ) (r : Result Sheet Refusal) (is : r ≡ reading bytes) where
+  pub when_accepted : number r ≡ 0 → Accepted bytes r
+  when_accepted z = go r refl z
     where
-      go : (r : Reading) → reading bytes ≡ r → Answers r c → reading bytes ≡ refused c.number c.place
-      go (refused number place) e h = e ∙ λ t. refused (sym h.0 t) (sym h.1 t)
-      go (accepted sheet) e h = absurd (z h.0)
+      go : (given : Result Sheet Refusal) → r ≡ given → number given ≡ 0 → Accepted bytes r
+      go (Ok sheet) e z = let accepted = sym is ∙ e in record { sheet = sheet; is = accepted; holds = e; in_range = in_range_of_accepted bytes sheet accepted }
+      go (Err refusal) e z = absurd (refused_by_number refusal.reason z)
+
+  pub when_refused : (number r ≡ 0 → ⊥) → Refused bytes r
+  when_refused z = go r refl z
+    where
+      go : (given : Result Sheet Refusal) → r ≡ given → (number given ≡ 0 → ⊥) → Refused bytes r
+      go (Ok sheet) e z = absurd (z refl)
+      go (Err refusal) e z = record { refusal = refusal; is = sym is ∙ e; holds = e }

@@ -1,19 +1,22 @@
--- Rows that start behind a region enter its maximum with 0, so that they need not be looked at one by one.
+-- Segments that start behind a region enter its maximum with 0, so that they need not be looked at one by one.
+use mathlib.Core.Bool.{false}
 use mathlib.Core.Path.{◌≡◌, refl, sym, ap, ◌∙◌}
 use mathlib.Core.List.{List, [], ◌∷◌, ◌++◌, map, map-append, foldl, foldl-append}
-use Prim.Native.Nat.{ℕ, suc, ◌+◌, ◌-◌, ◌<◌}
+use Prim.Native.Nat.{ℕ, ◌+◌, ◌<◌}
 use native.Mathlib.Omega.{arith}
-use lib.IntN.{ℤ, pos}
-use lib.ListN.{length}
-use Rattle.whole.specs.Whole.{larger_of}
+use lib.Dec.{leb}
+use lib.IntN.{ℤ, pos, ◌*ℤ◌}
+use lib.ListN.{length, get_or, take, drop, length-drop}
+use Rattle.std.specs.List.{AllWithin}
+use Rattle.std.proofs.lemmas.List.{take-append-drop, get_or-drop, length-map}
+use Rattle.std.proofs.lemmas.Bool.Decides.{leb_tells}
+use Rattle.whole.specs.Whole.{floor_of, larger_of}
 use Rattle.whole.proofs.Comparisons.{larger_again}
+use Rattle.whole.proofs.Quotients.{floor_none}
 use Rattle.gaze.specs.declared.Segment.{Segment}
-use Rattle.gaze.specs.Lists.{Each, keep, listed}
-use Rattle.gaze.specs.SegmentScore.{enters, share, largest, largest_share}
-use Rattle.gaze.proofs.ListLaws.{each_mapped, each_listed, keep_all, listed_length, listed_joined, listed_none}
-use Rattle.sorted.specs.Sorted.{First}
-use Rattle.rows.specs.Rows.{row, rows}
-use Rattle.rows.proofs.Shares.{share_before}
+use Rattle.gaze.specs.Lists.{Each, keep}
+use Rattle.gaze.specs.SegmentScore.{enters, overlap, size, share, largest, largest_share}
+use Rattle.gaze.proofs.ListLaws.{each_of, each_mapped, keep_all}
 
 abbrev Zeros : List ℤ → Type 0
 Zeros l = Each (λ z. z ≡ pos 0) l
@@ -26,82 +29,42 @@ fold_zeros v (z ∷ l) p =
     ap (λ (y : ℤ). foldl larger_of (larger_of (larger_of v (pos 0)) y) l) p.0
     ∙ (ap (λ (y : ℤ). foldl larger_of y l) (larger_again v) ∙ fold_zeros v l p.1)
 
-zeros_alone : (l : List ℤ) → Zeros l → largest l ≡ pos 0
+zeros_after : (l m : List ℤ) → 0 < length m → Zeros m → largest (l ++ m) ≡ larger_of (largest l) (pos 0)
 unfolding Each
-zeros_alone [] p = refl
-zeros_alone (z ∷ l) p = ap (λ (y : ℤ). foldl larger_of y l) p.0 ∙ fold_zeros (pos 0) l p.1
-
-zeros_after : (l m : List ℤ) → 0 < length l → 0 < length m → Zeros m → largest (l ++ m) ≡ larger_of (largest l) (pos 0)
-unfolding Each
-zeros_after [] m h k p = absurd (none_in h)
+zeros_after l [] k p = absurd (none_in k)
   where
     none_in : 0 < 0 → ⊥
     none_in h = omega arith
-zeros_after (v ∷ l) [] h k p = absurd (none_in k)
-  where
-    none_in : 0 < 0 → ⊥
-    none_in h = omega arith
-zeros_after (v ∷ l) (z ∷ m) h k p =
+zeros_after [] (z ∷ m) k p = ap (λ (y : ℤ). foldl larger_of y m) p.0 ∙ fold_zeros (pos 0) m p.1
+zeros_after (v ∷ l) (z ∷ m) k p =
     foldl-append larger_of v l (z ∷ m)
     ∙ (ap (λ (y : ℤ). foldl larger_of (larger_of (foldl larger_of v l) y) m) p.0 ∙ fold_zeros (foldl larger_of v l) m p.1)
 
--- ---- the rows from `behind` on
-length_map : {A B : Type 0} (f : A → B) (l : List A) → length (map f l) ≡ length l
-length_map f [] = refl
-length_map f (a ∷ l) = ap suc (length_map f l)
+-- ---- the segments from `behind` on
+module _ (s t : ℕ) where
+  share_behind : (g : Segment) → t < g.start → share s t g ≡ pos 0
+  share_behind g h =
+      let o : overlap s t g ≡ 0 = omega arith in
+      ap (λ (n : ℕ). floor_of (g.score *ℤ pos n) (size g)) o ∙ floor_none g.score (size g)
 
-module _ (kind : ℕ) (starts ends : List ℕ) (scores : List ℤ) (lo hi s t behind : ℕ) (p : First starts lo hi (t + 1) behind) where
-  near : List Segment
-  near = rows kind starts ends scores lo behind
+  shares_all : (l : List Segment) → map (share s t) (keep (enters s t) l) ≡ map (share s t) l
+  shares_all l = ap (map (share s t)) (keep_all (enters s t) l (λ g. refl))
 
-  far : List Segment
-  far = rows kind starts ends scores behind hi
+  pub largest_behind : (l : List Segment) (behind : ℕ) → behind < length l → AllWithin (λ g. leb g.start t ≡ false) l behind (length l)
+      → larger_of (largest_share s t (take behind l)) (pos 0) ≡ largest_share s t l
+  largest_behind l behind h late =
+      let far = drop behind l in
+      let k : 0 < length (map (share s t) far) = omega (arith, length-map far (share s t), length-drop behind l) in
+      let each : Each (λ g. t < g.start) far = each_of (λ g. t < g.start) nothing far far_late in
+      ap (λ (m : List ℤ). larger_of (largest m) (pos 0)) (shares_all (take behind l))
+      ∙ (sym (zeros_after (map (share s t) (take behind l)) (map (share s t) far) k (each_mapped (λ g. t < g.start) (λ z. z ≡ pos 0) (share s t) far share_behind each))
+      ∙ (ap largest (sym (map-append (share s t) (take behind l) far) ∙ ap (map (share s t)) (take-append-drop behind l))
+      ∙ ap largest (sym (shares_all l))))
+    where
+      nothing : Segment
+      nothing = record { kind = 0; start = 0; end = 0; score = pos 0 }
 
-  all_rows : rows kind starts ends scores lo hi ≡ near ++ far
-  unfolding near far
-  all_rows =
-      let f = row kind starts ends scores in
-      let a = p.begun in
-      let b = p.within in
-      let n : hi - lo ≡ (behind - lo) + (hi - behind) = omega arith in
-      let e : lo + (behind - lo) ≡ behind = omega arith in
-      ap (listed f lo) n ∙ (listed_joined f lo (behind - lo) (hi - behind) ∙ ap (λ (x : ℕ). listed f lo (behind - lo) ++ listed f x (hi - behind)) e)
-
-  all_enter : (l : List Segment) → map (share s t) (keep (enters s t) l) ≡ map (share s t) l
-  all_enter l = ap (map (share s t)) (keep_all (enters s t) l (λ g. refl))
-
-  far_zeros : Zeros (map (share s t) far)
-  unfolding far
-  far_zeros =
-      each_mapped (λ g. t < g.start) (λ z. z ≡ pos 0) (share s t) (rows kind starts ends scores behind hi)
-      (λ g h. share_before s t g.start g.end g.score h)
-      (each_listed (λ g. t < g.start) (row kind starts ends scores) behind (hi - behind) (λ i l u. let b = p.within in let k = p.enough i l (omega arith) in omega arith))
-
-  shares : map (share s t) (keep (enters s t) (rows kind starts ends scores lo hi)) ≡ map (share s t) near ++ map (share s t) far
-  shares = all_enter (rows kind starts ends scores lo hi) ∙ (ap (map (share s t)) all_rows ∙ map-append (share s t) near far)
-
-  long_near : length (map (share s t) near) ≡ behind - lo
-  unfolding near
-  long_near = length_map (share s t) near ∙ listed_length (row kind starts ends scores) lo (behind - lo)
-
-  long_far : length (map (share s t) far) ≡ hi - behind
-  unfolding far
-  long_far = length_map (share s t) far ∙ listed_length (row kind starts ends scores) behind (hi - behind)
-
-  pub none_behind : {value : ℤ} → behind ≡ hi → value ≡ largest_share s t (rows kind starts ends scores lo behind) → value ≡ largest_share s t (rows kind starts ends scores lo hi)
-  none_behind h e = e ∙ ap (λ (n : ℕ). largest_share s t (rows kind starts ends scores lo n)) h
-
-  pub all_behind : behind ≡ lo → pos 0 ≡ largest_share s t (rows kind starts ends scores lo hi)
-  unfolding near
-  all_behind h =
-      let e : near ≡ [] = listed_none (row kind starts ends scores) lo behind h in
-      sym (ap largest (shares ∙ ap (λ (l : List Segment). map (share s t) l ++ map (share s t) far) e) ∙ zeros_alone (map (share s t) far) far_zeros)
-
-  pub some_behind : {value : ℤ} → (behind ≡ hi → ⊥) → (behind ≡ lo → ⊥) → value ≡ largest_share s t (rows kind starts ends scores lo behind)
-      → larger_of value (pos 0) ≡ largest_share s t (rows kind starts ends scores lo hi)
-  unfolding near
-  some_behind h k e =
-      let a = p.begun in
-      let b = p.within in
-      ap (λ (z : ℤ). larger_of z (pos 0)) (e ∙ ap largest (all_enter near))
-      ∙ sym (ap largest shares ∙ zeros_after (map (share s t) near) (map (share s t) far) (omega (arith, long_near, k)) (omega (arith, long_far, h)) far_zeros)
+      far_late : (i : ℕ) → i < length (drop behind l) → t < (get_or (drop behind l) i nothing).start
+      far_late i n =
+          let h = late (behind + i) nothing (omega arith) (omega (arith, length-drop behind l)) in
+          rw (get_or-drop behind l i nothing) (grind (arith, leb_tells))

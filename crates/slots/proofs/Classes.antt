@@ -1,28 +1,27 @@
 -- A type and a class are all that a phase asks of a segment: which slot a Q line asks for at a target position, and in which slots a segment stands.
-use mathlib.Core.Path.{◌≡◌, refl, sym, ap, ◌∙◌}
+use mathlib.Core.Path.{◌≡◌, refl, ap, ◌∙◌}
 use mathlib.Core.Logic.{◌⊎◌, inl, inr}
-use mathlib.Core.Bool.{Bool, true, false, ◌&&◌, true≢false}
-use Prim.Native.Nat.{ℕ, ◌+◌, ◌*◌, ◌/◌, ◌%◌, ◌≤◌, ◌<◌}
+use mathlib.Core.Bool.{Bool, true, false, ◌&&◌}
+use Prim.Native.Nat.{ℕ, zero, suc, ◌+◌, ◌-◌, ◌*◌, ◌/◌, ◌%◌, ◌≤◌, ◌<◌}
 use native.Mathlib.Omega.{arith}
-use borrow.Author.Tests.{eq-eqb, ne_eqb, eqb-true, eqb-false}
-use lib.Dec.{eqb}
+use borrow.Author.Tests.{ne_eqb, eqb-true, eqb-false}
+use lib.Dec.{eqb, ltb, ltb→lt, nltb→le}
+use lib.IntN.{pos, negsuc, ◌-ℤ◌}
+use Rattle.std.proofs.lemmas.Bool.{cases_Bool}
+use Rattle.whole.proofs.Linear.{by_cases}
+use Rattle.gaze.proofs.Tests.{both_true, same_test}
 use Rattle.gaze.specs.declared.Segment.{Segment}
-use Rattle.gaze.specs.SegmentScore.{meets_phase}
+use Rattle.gaze.specs.SegmentScore.{reduced, meets_phase}
 use Rattle.segment.specs.Choice.{fits}
-use Rattle.segment.proofs.Choosing.{reduced_is}
 use Rattle.slots.specs.Slots.{class_of, class_phase, in_slot, slot_of}
 
--- a test by its outcome
-pub outcome : (b : Bool) → (b ≡ true) ⊎ (b ≡ false)
-outcome true = inl refl
-outcome false = inr refl
-
-same_test : (x y u v : ℕ) → (x ≡ y → u ≡ v) → (u ≡ v → x ≡ y) → eqb x y ≡ eqb u v
-same_test x y u v f g = go (outcome (eqb x y))
-  where
-    go : (eqb x y ≡ true) ⊎ (eqb x y ≡ false) → eqb x y ≡ eqb u v
-    go (inl e) = e ∙ sym (eq-eqb u v (f (eqb-true x y e)))
-    go (inr e) = e ∙ sym (ne_eqb u v (λ h. eqb-false x y e (g h)))
+-- t - start, reduced, without a difference
+reduced_is : (t start : ℕ) → reduced (pos t -ℤ pos start) ≡ (t + 2 * start) % 3
+reduced_is t zero = omega arith
+reduced_is t (suc a) =
+    by_cases (ltb t (suc a)) (negsuc (suc a - suc t)) (pos (t - suc a)) (λ z. reduced z ≡ (t + 2 * suc a) % 3)
+    (λ h. let l = ltb→lt t (suc a) h in omega arith)
+    (λ h. let l = nltb→le t (suc a) h in omega arith)
 
 -- ---- the slot of a Q line
 phase_class : (phase t : ℕ) (g : Segment) → phase < 3 → meets_phase phase t g ≡ meets_phase 0 ((t + 2 * phase) % 3) g
@@ -32,7 +31,7 @@ phase_class phase t g h =
     (same_test ((t + 2 * g.start) % 3) phase (((t + 2 * phase) % 3 + 2 * g.start) % 3) 0 (λ e. omega arith) (λ e. omega arith))
 
 class_fits : (kind phase t : ℕ) (g : Segment) → phase ≤ 3 → fits kind phase t g ≡ fits kind (class_phase (class_of phase t)) (class_of phase t) g
-class_fits kind phase t g h = go (outcome (eqb phase 3))
+class_fits kind phase t g h = go (cases_Bool (eqb phase 3))
   where
     low : (t + 2 * phase) % 3 ≡ 3 → ⊥
     low q = omega arith
@@ -47,7 +46,7 @@ class_fits kind phase t g h = go (outcome (eqb phase 3))
         ∙ rw (e, ne_eqb ((t + 2 * phase) % 3) 3 low) refl
 
 class_low : (phase t : ℕ) → class_of phase t < 4
-class_low phase t = go (outcome (eqb phase 3))
+class_low phase t = go (cases_Bool (eqb phase 3))
   where
     go : (eqb phase 3 ≡ true) ⊎ (eqb phase 3 ≡ false) → class_of phase t < 4
     go (inl e) = rw e (omega arith)
@@ -66,13 +65,9 @@ slot_fits kind phase t g h =
     class_fits kind phase t g h ∙ rw (d, m) refl
 
 -- ---- the slots of a segment: that of its start's remainder, and the last of its type
-both_true : (a b : Bool) → a && b ≡ true → (a ≡ true) × (b ≡ true)
-both_true true b h = (refl, h)
-both_true false b h = absurd (true≢false (sym h))
-
 pub slots_of_one : (j : ℕ) (g : Segment) → in_slot j g ≡ true → (j ≡ 4 * g.kind + g.start % 3) ⊎ (j ≡ 4 * g.kind + 3)
 slots_of_one j g h =
-    go (both_true (eqb g.kind (j / 4)) (meets_phase (class_phase (j % 4)) (j % 4) g) h) (outcome (eqb (j % 4) 3))
+    go (both_true (eqb g.kind (j / 4)) (meets_phase (class_phase (j % 4)) (j % 4) g) h) (cases_Bool (eqb (j % 4) 3))
   where
     low : (j % 4 ≡ 3 → ⊥) → j % 4 < 3
     low n = omega (arith, n)

@@ -1,20 +1,21 @@
--- The slots together have at most two rows for each segment, since each segment stands in two slots at the most. So the columns have room.
-use mathlib.Core.Path.{◌≡◌, refl}
+-- The slots together have at most two rows for each segment, since each segment stands in two slots at the most. So the rows have room.
+use mathlib.Core.Path.{◌≡◌, refl, ap}
 use mathlib.Core.Logic.{◌⊎◌, inl, inr}
 use mathlib.Core.Bool.{Bool, true, false, cond}
 use mathlib.Core.List.{List, [], ◌∷◌}
-use Prim.Native.Nat.{ℕ, zero, suc, ◌+◌, ◌-◌, ◌*◌, ◌%◌, ◌≤◌, min}
+use Prim.Native.Nat.{ℕ, zero, suc, ◌+◌, ◌-◌, ◌*◌, ◌%◌, ◌≤◌, ◌<◌, min}
+use native.Mathlib.Numerals.{add-one}
 use native.Mathlib.Omega.{arith}
-use lib.ListN.{length}
+use lib.ListN.{length, get_or, take}
+use Rattle.std.specs.List.{filter}
 use Rattle.gaze.specs.declared.Segment.{Segment}
-use Rattle.gaze.specs.Lists.{keep}
 use Rattle.slots.specs.Slots.{in_slot}
 use Rattle.slots.proofs.Classes.{slots_of_one}
 
 -- how many rows the slots below j have
 unfoldable pub counted : ℕ → List Segment → ℕ
 counted zero l = 0
-counted (suc j) l = counted j l + length (keep (in_slot j) l)
+counted (suc j) l = counted j l + length (filter (in_slot j) l)
 
 -- in how many of them one segment stands
 hits : ℕ → Segment → ℕ
@@ -56,7 +57,7 @@ hits_most (suc j) g =
 
 -- ---- and so all of them
 counted_none : (j : ℕ) → counted j [] ≡ 0
-unfolding counted keep
+unfolding counted
 counted_none zero = refl
 counted_none (suc j) = rw (counted_none j) refl
 
@@ -65,10 +66,29 @@ one_more true g l = omega arith
 one_more false g l = omega arith
 
 counted_cons : (j : ℕ) (g : Segment) (l : List Segment) → counted j (g ∷ l) ≡ counted j l + hits j g
-unfolding counted hits keep
+unfolding counted hits
 counted_cons zero g l = omega arith
-counted_cons (suc j) g l = omega (arith, counted_cons j g l, one_more (in_slot j g) g (keep (in_slot j) l))
+counted_cons (suc j) g l = omega (arith, counted_cons j g l, one_more (in_slot j g) g (filter (in_slot j) l))
 
 pub counted_most : (j : ℕ) (l : List Segment) → counted j l ≤ 2 * length l
 counted_most j [] = omega (arith, counted_none j)
 counted_most j (g ∷ l) = omega (arith, counted_cons j g l, hits_most j g, counted_most j l)
+
+pub counted_next : (j : ℕ) (l : List Segment) → counted (j + 1) l ≡ counted j l + length (filter (in_slot j) l)
+unfolding counted
+counted_next j l = ap (λ (i : ℕ). counted i l) (add-one j)
+
+-- ---- one that passes behind the first i of a list leaves room for it
+pub filter_room : (test : Segment → Bool) (l : List Segment) (i : ℕ) (d : Segment) → i < length l → test (get_or l i d) ≡ true
+    → length (filter test (take i l)) < length (filter test l)
+filter_room test [] i d h t = absurd (none_in h)
+  where
+    none_in : {i : ℕ} → i < 0 → ⊥
+    none_in h = omega arith
+filter_room test (g ∷ l) zero d h t = rw t (omega arith)
+filter_room test (g ∷ l) (suc i) d h t = go (test g) (filter_room test l i d (omega arith) t)
+  where
+    go : (b : Bool) → length (filter test (take i l)) < length (filter test l)
+        → length (cond b (g ∷ filter test (take i l)) (filter test (take i l))) < length (cond b (g ∷ filter test l) (filter test l))
+    go true k = omega arith
+    go false k = k

@@ -1,7 +1,6 @@
 pub mod Classes
-pub mod Marks
 pub mod Counting
-pub mod Grouping
 pub mod StartOrder
 pub mod Behind
+pub mod Grouping
 pub mod Lines

@@ -3,19 +3,20 @@
 use mathlib.Core.Path.{◌≡◌, refl, sym, ap, ◌∙◌}
 use mathlib.Core.Bool.{Bool, true, false, ◌&&◌}
 use mathlib.Core.List.{List}
-use Prim.Native.Nat.{ℕ, ◌≤◌}
-use lib.IntN.{ℤ}
+use Prim.Native.Nat.{ℕ, ◌<◌}
+use lib.Dec.{eqb}
 use lib.ListN.{get_or}
 use Rattle.gaze.specs.declared.Segment.{Segment}
 use Rattle.gaze.specs.declared.Qualifier.{Qualifier}
 use Rattle.gaze.specs.Lists.{keep}
-use Rattle.gaze.specs.SegmentScore.{meets_match, segment_score}
+use Rattle.gaze.specs.Ranges.{QualifierRanges}
+use Rattle.gaze.specs.SegmentScore.{meets_phase, meets_match, asked, chosen, segment_score}
 use Rattle.gaze.proofs.ListLaws.{keep_same, keep_all, keep_twice}
 use Rattle.rows.specs.Rows.{scored}
 use Rattle.segment.specs.Choice.{fits}
-use Rattle.segment.proofs.Choosing.{chosen_is}
-use Rattle.slots.specs.Slots.{slot_of, in_slot, slot_rows, Grouped, Slots, starts_at, ends_at, ending}
+use Rattle.slots.specs.Slots.{slot_of, in_slot, slots_of, slot_in, starts_at, ends_at, ending}
 use Rattle.slots.proofs.Classes.{slot_low, slot_fits}
+use Rattle.slots.proofs.Grouping.{slot_listed}
 
 -- ---- the matches, by their numbers
 and_true : (b : Bool) → b && true ≡ b
@@ -26,6 +27,10 @@ and_turned : (a b : Bool) → a && b ≡ b && a
 and_turned true b = sym (and_true b)
 and_turned false true = refl
 and_turned false false = refl
+
+and_grouped : (a b c : Bool) → a && (b && c) ≡ (a && b) && c
+and_grouped true b c = refl
+and_grouped false b c = refl
 
 module _ (s t : ℕ) (l : List Segment) where
   match_0 : keep (meets_match 0 s t) l ≡ l
@@ -42,35 +47,45 @@ module _ (s t : ℕ) (l : List Segment) where
       keep_same (meets_match 3 s t) (λ g. ends_at t g && starts_at s g) l (λ g. and_turned (starts_at s g) (ends_at t g))
       ∙ sym (keep_twice (ends_at t) (starts_at s) l)
 
--- ---- a Q line, and the rows of the slot that it asks for
-module _ {segments : List Segment} {at starts ends : List ℕ} {scores : List ℤ} {total : ℕ} (g : Slots segments at starts ends scores total)
-    (q : Qualifier) (s t : ℕ) (kind_low : q.kind ≤ 15) (phase_low : q.phase ≤ 3) where
-  by_match : (m : ℕ) (l : List Segment) → q.matching ≡ m → keep (meets_match m s t) (slot_rows (slot_of q.kind q.phase t) at starts ends scores) ≡ l
-      → scored q.method s t l ≡ segment_score q s t segments
-  by_match m l h e =
-      let j = slot_of q.kind q.phase t in
-      let from_slot : keep (fits q.kind q.phase t) segments ≡ slot_rows j at starts ends scores =
-      keep_same (fits q.kind q.phase t) (in_slot j) segments (λ x. slot_fits q.kind q.phase t x phase_low)
-      ∙ sym (g.grouped.is j (slot_low q.kind q.phase t kind_low)) in
-      ap (scored q.method s t) (sym (chosen_is q s t segments ∙ (ap (keep (meets_match q.matching s t)) from_slot
-      ∙ (ap (λ (x : ℕ). keep (meets_match x s t) (slot_rows j at starts ends scores)) h ∙ e))))
+-- ---- a slot that is used, narrowed to a target
+pub ending_at : (used : List Bool) (t : ℕ) (slots : List (List Segment)) (j : ℕ) → j < 64 → get_or used j false ≡ true
+    → slot_in (ending used t slots) j ≡ keep (ends_at t) (slot_in slots j)
+unfolding ending
+ending_at used t slots j low is_used =
+    slot_listed (λ j. keep (λ g. get_or used j false && ends_at t g) (slot_in slots j)) j low ∙ rw is_used refl
 
-  pub score_any : q.matching ≡ 0 → scored q.method s t (slot_rows (slot_of q.kind q.phase t) at starts ends scores) ≡ segment_score q s t segments
+-- ---- a Q line, and the rows of the slot that it asks for
+module _ {slots : List (List Segment)} (segments : List Segment) (held : slots ≡ slots_of segments) (q : Qualifier) (ranged : QualifierRanges q) (s t : ℕ) where
+  abbrev asked_slot : ℕ
+  asked_slot = slot_of q.kind q.phase t
+
+  slot_rows : slot_in slots asked_slot ≡ keep (fits q.kind q.phase t) segments
+  unfolding slots_of
+  slot_rows =
+      ap (λ (l : List (List Segment)). slot_in l asked_slot) held
+      ∙ (slot_listed (λ j. keep (in_slot j) segments) asked_slot (slot_low q.kind q.phase t ranged.kind)
+      ∙ sym (keep_same (fits q.kind q.phase t) (in_slot asked_slot) segments (λ g. slot_fits q.kind q.phase t g ranged.phase)))
+
+  chosen_is : chosen q s t segments ≡ keep (meets_match q.matching s t) (slot_in slots asked_slot)
+  chosen_is =
+      keep_same (asked q s t) (λ g. fits q.kind q.phase t g && meets_match q.matching s t g) segments
+      (λ g. and_grouped (eqb g.kind q.kind) (meets_phase q.phase t g) (meets_match q.matching s t g))
+      ∙ (sym (keep_twice (fits q.kind q.phase t) (meets_match q.matching s t) segments) ∙ ap (keep (meets_match q.matching s t)) (sym slot_rows))
+
+  by_match : (m : ℕ) (l : List Segment) → q.matching ≡ m → keep (meets_match m s t) (slot_in slots asked_slot) ≡ l
+      → scored q.method s t l ≡ segment_score q s t segments
+  by_match m l h e = ap (scored q.method s t) (sym (chosen_is ∙ (ap (λ (x : ℕ). keep (meets_match x s t) (slot_in slots asked_slot)) h ∙ e)))
+
+  pub score_any : q.matching ≡ 0 → scored q.method s t (slot_in slots (slot_of q.kind q.phase t)) ≡ segment_score q s t segments
   score_any h = by_match 0 _ h (match_0 s t _)
 
-  pub score_from_source : q.matching ≡ 1
-      → scored q.method s t (keep (starts_at s) (slot_rows (slot_of q.kind q.phase t) at starts ends scores)) ≡ segment_score q s t segments
+  pub score_from_source : q.matching ≡ 1 → scored q.method s t (keep (starts_at s) (slot_in slots (slot_of q.kind q.phase t))) ≡ segment_score q s t segments
   score_from_source h = by_match 1 _ h (match_1 s t _)
 
-  -- the columns that were narrowed to the target, where the slot is used
-  module _ (used : List Bool) {bounds starts' ends' : List ℕ} {scores' : List ℤ} {total' : ℕ} (n : Grouped (ending used t at starts ends scores) bounds starts' ends' scores' 64 total')
-      (is_used : get_or used (slot_of q.kind q.phase t) false ≡ true) where
-    narrowed : slot_rows (slot_of q.kind q.phase t) bounds starts' ends' scores' ≡ keep (ends_at t) (slot_rows (slot_of q.kind q.phase t) at starts ends scores)
-    narrowed = rw is_used at (n.is (slot_of q.kind q.phase t) (slot_low q.kind q.phase t kind_low))
+  -- where the slot is narrowed to the target
+  module _ (narrowed : List (List Segment)) (near : slot_in narrowed (slot_of q.kind q.phase t) ≡ keep (ends_at t) (slot_in slots (slot_of q.kind q.phase t))) where
+    pub score_to_target : q.matching ≡ 2 → scored q.method s t (slot_in narrowed (slot_of q.kind q.phase t)) ≡ segment_score q s t segments
+    score_to_target h = by_match 2 _ h (match_2 s t _ ∙ sym near)
 
-    pub score_to_target : q.matching ≡ 2 → scored q.method s t (slot_rows (slot_of q.kind q.phase t) bounds starts' ends' scores') ≡ segment_score q s t segments
-    score_to_target h = by_match 2 _ h (match_2 s t _ ∙ sym narrowed)
-
-    pub score_both : q.matching ≡ 3
-        → scored q.method s t (keep (starts_at s) (slot_rows (slot_of q.kind q.phase t) bounds starts' ends' scores')) ≡ segment_score q s t segments
-    score_both h = by_match 3 _ h (match_3 s t _ ∙ ap (keep (starts_at s)) (sym narrowed))
+    pub score_both : q.matching ≡ 3 → scored q.method s t (keep (starts_at s) (slot_in narrowed (slot_of q.kind q.phase t))) ≡ segment_score q s t segments
+    score_both h = by_match 3 _ h (match_3 s t _ ∙ ap (keep (starts_at s)) (sym near))

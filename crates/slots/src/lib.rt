@@ -3,14 +3,17 @@
 
 #![tactic(auto)]
 
-ghost use Rattle.std.specs.Prelude.{◌≡◌, ◌&&◌, ℕ, ◌-◌, ◌<◌, ◌≤◌, length};
-ghost use Rattle.gaze.specs.Lists.{keep, listed};
-ghost use Rattle.gaze.specs.Columns.{segment_at};
+ghost use Rattle.std.specs.Prelude.{◌≡◌, [], ◌++◌, ◌+◌, ◌<◌, ◌≤◌, length, replicate, filter};
+ghost use Rattle.arrayvec.specs.ArrayVec.{array_vec_len};
+ghost use Rattle.gaze.specs.Lists.{keep, Each};
+ghost use Rattle.gaze.specs.Ranges.{Group, SegmentRanges, segment_keys};
 ghost use Rattle.gaze.specs.SegmentScore.{largest_share};
-ghost use Rattle.rows.specs.Rows.{row, rows, Sound, scored, Rated};
-ghost use Rattle.segment.specs.Choice.{Room, Kept};
-ghost use Rattle.slots.specs.Slots.{slot_of, class_phase, Marked, Grouped, Slots, starts_at, ends_at, ending, Narrowing};
-ghost use Rattle.slots.specs.Search.{Rising, Starting};
+ghost use Rattle.slots.specs.Slots.{slot_of, class_phase, in_slot, Marked, slots_of, slot_in, starts_at, ends_at, ending, Rising};
+
+use arrayvec::ArrayVec;
+use gaze::Segment;
+use rows::Row;
+use std::marker::Model;
 
 // ---- which slot
 
@@ -19,7 +22,8 @@ pub fn slot_of(kind: u32, phase: u32, t: u32) -> usize
     requires kind_small { kind ≤ 15 }
     requires phase_small { phase ≤ 3 }
     requires bounded { t ≤ 4000000 }
-    ensures { result ≡ slot_of kind phase t }
+    ensures value { result ≡ slot_of kind phase t }
+    ensures low { result < 64 }
 {
     if phase == 3 {
         return (4 * kind + 3) as usize;
@@ -52,188 +56,127 @@ pub fn mark(kind: u32, phase: u32, used: &mut [bool])
 
 // ---- the grouping
 
-// The sheet's segments by slot: rows `at[j]` to `at[j + 1]` are slot `j`. Returns how many rows there are.
-pub fn group<'a>(
-    kind: &'a [u32],
-    start: &'a [u32],
-    end: &'a [u32],
-    score: &'a [i64],
-    count: usize,
-    at: &mut [usize],
-    starts: &mut [u32],
-    ends: &mut [u32],
-    scores: &mut [i64],
-) -> usize
-    requires sound { Sound 10000000 start.now end.now score.now 0 count }
-    requires kinds_long { count ≤ length kind.now }
-    requires few { count ≤ 1024 }
-    requires at_room { 64 < length at.old }
-    requires room { Room 0 3072 starts.old ends.old scores.old }
-    ensures { Slots (listed (segment_at kind.now start.now end.now score.now) 0 count) at.new starts.new ends.new scores.new result }
-{
-    at[0] = 0;
-    let mut o: usize = 0;
-    let mut j: usize = 0;
-    while j < 64 {
-        let class = (j % 4) as u32;
-        let phase = class_phase(class);
-        o = segment::gather(
-            kind,
-            start,
-            end,
-            score,
-            count,
-            (j / 4) as u32,
-            phase,
-            class,
-            o,
-            starts,
-            ends,
-            scores,
-        );
-        j += 1;
-        at[j] = o;
+// Rows by slot: `at[j]` to `at[j + 1]` are those of slot `j`. A segment stands in two slots of its type: in that of its remainder, and in that of all. To contracts it is the list of the 64 slots' segments, each in the order of their starts.
+#[derive(Drop)]
+pub struct Slots {
+    rows: ArrayVec<Row, 2048>,
+    at: [usize; 65],
+}
+
+impl Model for Slots {
+    ghost use Rattle.std.specs.Prelude.{List};
+    ghost use Rattle.gaze.specs.declared.Segment.{Segment};
+
+    ghost Value = { List (List Segment) };
+
+    ghost use Rattle.slots.specs.Held.{slots_in, IsGrouped};
+
+    ghost view = { slots_in };
+
+    ghost invariant = { IsGrouped };
+}
+
+impl Slots {
+    // No rows in any slot.
+    pub fn empty() -> Slots
+        ensures { result ≡ replicate 64 [] }
+    {
+        Slots::of(&[])
     }
-    o
+
+    // The segments of a sheet by slot. Not inlined, so that a caller keeps no second copy on its stack.
+    #[inline(never)]
+    pub fn of(segments: &[Segment]) -> Slots
+        requires { Group 1024 (SegmentRanges 4000000) segment_keys segments.now }
+        ensures { result ≡ slots_of segments.now }
+    {
+        let mut rows = ArrayVec::new();
+        let mut at = [0; 65];
+        for j in 0..64 {
+            push_slot(&mut rows, segments, j);
+            at[j + 1] = rows.len();
+        }
+        Slots { rows, at }
+    }
+
+    // The rows of one slot.
+    pub fn slot(&self, j: usize) -> &[Row]
+        requires { j < 64 }
+        ensures rows { result.now ≡ slot_in self.now j }
+        ensures rising { Rising result.now }
+        ensures few { length result.now ≤ 1024 }
+    {
+        &self.rows.as_slice()[self.at[j]..self.at[j + 1]]
+    }
+
+    // Takes the place of what was held: of every slot of `slots` that is used the rows that end at `t`.
+    pub fn narrow_to(&mut self, slots: &Slots, used: &[bool; 64], t: u32)
+        ensures { self.new ≡ ending used.now t slots.now }
+    {
+        self.rows.clear();
+        self.at[0] = 0;
+        for j in 0..64 {
+            if used[j] {
+                let slot = &slots.rows.as_slice()[slots.at[j]..slots.at[j + 1]];
+                push_ending(&mut self.rows, slot, t);
+            }
+            self.at[j + 1] = self.rows.len();
+        }
+    }
+}
+
+// The segments that stand in slot `j`, behind the rows that are there.
+fn push_slot(rows: &mut ArrayVec<Row, 2048>, segments: &[Segment], j: usize)
+    requires low { j < 64 }
+    requires each { Each (SegmentRanges 4000000) segments.now }
+    requires room { array_vec_len rows.old + length (filter (in_slot j) segments.now) ≤ 2048 }
+    ensures { rows.new.items ≡ rows.old.items ++ filter (in_slot j) segments.now }
+{
+    let class = (j % 4) as u32;
+    let phase = class_phase(class);
+    for segment in segments {
+        if segment::fits(segment, (j / 4) as u32, phase, class) {
+            rows.push(Row::of(*segment));
+        }
+    }
+}
+
+// Those of a slot that end at `t`, behind the rows that are there.
+fn push_ending(rows: &mut ArrayVec<Row, 2048>, slot: &[Row], t: u32)
+    requires { array_vec_len rows.old + length slot.now ≤ 2048 }
+    ensures { rows.new.items ≡ rows.old.items ++ filter (ends_at t) slot.now }
+{
+    for row in slot {
+        if row.segment.end == t {
+            rows.push(*row);
+        }
+    }
 }
 
 // ---- rows by their starts
 
-// Rows `lo` to `hi`, `hi` left out.
-#[derive(Drop)]
-pub struct Span {
-    pub lo: usize,
-    pub hi: usize,
-}
-
-pub fn starting_at(start: &[u32], lo: usize, hi: usize, s: u32) -> Span
-    requires rising { Rising start.now lo hi }
-    requires bounded { s ≤ 4000000 }
-    ensures { Starting start.now lo hi s result.lo result.hi }
+// Those of the rows that start at `s`.
+pub fn starting(rows: &[Row], s: u32) -> &[Row]
+    requires { Rising rows.now }
+    ensures { result.now ≡ keep (starts_at s) rows.now }
 {
-    let first = sorted::first_from(start, lo, hi, s);
-    let beyond = sorted::first_from(start, first, hi, s + 1);
-    Span {
-        lo: first,
-        hi: beyond,
-    }
+    let first = rows.partition_point(|row| row.segment.start < s);
+    let from_source = &rows[first..];
+    let count = from_source.partition_point(|row| row.segment.start <= s);
+    &from_source[..count]
 }
 
-// The score of those of rows `lo` to `hi` that start at the source.
-pub fn score_starting<'a>(
-    start: &'a [u32],
-    end: &'a [u32],
-    score: &'a [i64],
-    rate: &'a [i64],
-    lo: usize,
-    hi: usize,
-    method: u32,
-    s: u32,
-    t: u32,
-) -> i64
-    requires rising { Rising start.now lo hi }
-    requires sound { Sound 10000000 start.now end.now score.now lo hi }
-    requires rated { Rated start.now end.now score.now lo hi rate.now }
-    requires room { hi ≤ length rate.now }
+// The largest share among the rows. Those that start behind the region are not looked at: they enter with 0.
+pub fn share_to(rows: &[Row], s: u32, t: u32) -> i64
+    requires rising { Rising rows.now }
     requires ordered { s ≤ t }
     requires bounded { t ≤ 4000000 }
-    ensures { (kind : ℕ) → result ≡ scored method s t (keep (starts_at s) (rows kind start.now end.now score.now lo hi)) }
+    ensures { result ≡ largest_share s t rows.now }
 {
-    let span = starting_at(start, lo, hi, s);
-    rows::score_rows(start, end, score, rate, span.lo, span.hi, method, s, t)
-}
-
-// The largest share among rows `lo` to `hi`. Rows that start behind the region are not looked at: they enter with 0.
-pub fn share_to<'a>(
-    start: &'a [u32],
-    end: &'a [u32],
-    score: &'a [i64],
-    lo: usize,
-    hi: usize,
-    s: u32,
-    t: u32,
-) -> i64
-    requires rising { Rising start.now lo hi }
-    requires sound { Sound 10000000 start.now end.now score.now lo hi }
-    requires ordered { s ≤ t }
-    requires bounded { t ≤ 4000000 }
-    ensures { (kind : ℕ) → result ≡ largest_share s t (rows kind start.now end.now score.now lo hi) }
-{
-    let behind = sorted::first_from(start, lo, hi, t + 1);
-    let value = rows::best_share(start, end, score, lo, behind, s, t);
-    if behind == hi {
-        return value;
+    let behind = rows.partition_point(|row| row.segment.start <= t);
+    let near = rows::best_share(&rows[..behind], s, t);
+    if behind == rows.len() {
+        return near;
     }
-    if behind == lo {
-        return 0;
-    }
-    whole::larger(value, 0)
-}
-
-// ---- rows that end at a position
-
-// Where the slot is used, those of its rows that end at `t`, written from `at` on; returns where they end.
-fn narrow_slot<'a>(
-    used: bool,
-    start: &'a [u32],
-    end: &'a [u32],
-    score: &'a [i64],
-    lo: usize,
-    hi: usize,
-    t: u32,
-    at: usize,
-    starts: &mut [u32],
-    ends: &mut [u32],
-    scores: &mut [i64],
-) -> usize
-    requires sound { Sound 10000000 start.now end.now score.now lo hi }
-    requires room { Room at (hi - lo) starts.old ends.old scores.old }
-    ensures { (kind : ℕ) → Kept (λ g. used && ends_at t g) (row kind start.now end.now score.now) kind lo hi at result starts.old ends.old scores.old starts.new ends.new scores.new }
-{
-    if !used {
-        return at;
-    }
-    segment::narrow(start, end, score, lo, hi, 2, t, t, at, starts, ends, scores)
-}
-
-// Of every slot that is used the rows that end at `t`, by slot: rows `bounds[j]` to `bounds[j + 1]`. Returns how many rows there are.
-pub fn narrow_slots<'a>(
-    at: &'a [usize],
-    start: &'a [u32],
-    end: &'a [u32],
-    score: &'a [i64],
-    total: usize,
-    used: &'a [bool],
-    t: u32,
-    bounds: &mut [usize],
-    starts: &mut [u32],
-    ends: &mut [u32],
-    scores: &mut [i64],
-) -> usize
-    requires sound { Sound 10000000 start.now end.now score.now 0 total }
-    requires narrowing { Narrowing at.now total used.now bounds.old starts.old ends.old scores.old }
-    ensures within { result ≤ total }
-    ensures grouped { Grouped (ending used.now t at.now start.now end.now score.now) bounds.new starts.new ends.new scores.new 64 result }
-{
-    bounds[0] = 0;
-    let mut o: usize = 0;
-    let mut j: usize = 0;
-    while j < 64 {
-        o = narrow_slot(
-            used[j],
-            start,
-            end,
-            score,
-            at[j],
-            at[j + 1],
-            t,
-            o,
-            starts,
-            ends,
-            scores,
-        );
-        j += 1;
-        bounds[j] = o;
-    }
-    o
+    whole::larger(near, 0)
 }

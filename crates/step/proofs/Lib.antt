@@ -1,1 +1,2 @@
-pub mod Joins
+mod Tables
+mod Steps

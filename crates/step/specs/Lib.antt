@@ -1,1 +1,3 @@
-pub mod Model
+pub mod Steps
+pub mod Prepared
+pub mod Target

@@ -1,5 +1,6 @@
-pub mod Filling
-pub mod Nearness
-pub mod Opening
-pub mod Pairs
-pub mod Spanning
+mod Largest
+mod Nearness
+mod Spanning
+mod Summing
+mod Walking
+mod Filling

@@ -1,257 +1,190 @@
--- Among many segments that give 0 one is as good as all: once 0 has entered a maximum, another 0 does not change it. So of the rows that end before a base
--- all but the first can be dropped, for every base from there on at once; and those that start behind a base do not matter there but for the first.
-use mathlib.Core.Path.{◌≡◌, refl, sym, subst, ◌∙◌}
-use mathlib.Core.Logic.{◌⊎◌, inl, inr}
-use mathlib.Core.Bool.{Bool, true, false, not, cond, ◌||◌, true≢false}
-use mathlib.Core.List.{List, [], ◌∷◌, ◌++◌, append-nil, append_assoc}
-use Prim.Native.Nat.{ℕ, zero, suc, ◌+◌, ◌-◌, ◌≤◌, ◌<◌}
-use native.Mathlib.Omega.{arith}
-use borrow.Author.Tests.{leb-false}
-use lib.Dec.{leb}
-use lib.IntN.{ℤ, pos}
-use lib.ListN.{length, get_or, set, length-set}
-use lib.Seq.{get_or-set_other}
-use lib.Signed.{le_z}
-use Rattle.whole.specs.Whole.{larger_of}
-use Rattle.whole.proofs.Comparisons.{larger_kept, larger_above, larger_of_zero}
+-- Among many segments that give 0 one is as good as all. So of the segments that end before a base all but one can be dropped, for every base from there on at
+-- once; and those that start behind a base do not matter there but for the first.
+use Rattle.std.proofs.Common.{◌≡◌, refl, sym, ap, ◌∙◌, arith, take-append-drop, get_or-drop, get_or-take, length-take, take_all, append_assoc, length-append, length-drop, leb-false}
+use Rattle.std.proofs.lemmas.List.{take_more}
+use Rattle.std.specs.Prelude.{Bool, true, false, cond, not, ◌&&◌, List, [], ◌∷◌, ◌++◌, ℕ, zero, suc, ◌+◌, ◌-◌, ◌≤◌, ◌<◌, leb, ℤ, pos, Option, Some, None, length, get_or, take, drop, filter, find, IfSome}
+use borrow.Author.Tests.{lt-leb}
 use Rattle.gaze.specs.declared.Segment.{Segment}
-use Rattle.gaze.specs.SegmentScore.{enters}
-use Rattle.gaze.proofs.ListLaws.{listed_none, listed_more}
-use Rattle.gaze.proofs.Tests.{at_or_below}
-use Rattle.rows.specs.Rows.{stretch, row, rows, Good, Sound}
-use Rattle.rows.specs.Maximum.{Looked, Beaten}
-use Rattle.rows.specs.Peaks.{held, peak}
-use Rattle.rows.proofs.Picking.{Picked, pick_none, pick_step, looked_kept}
-use Rattle.rows.proofs.Plateaus.{held_before, held_behind}
-use Rattle.segment.specs.Choice.{Put, Room}
-use Rattle.segment.proofs.Choosing.{rows_put, goods_put}
-use Rattle.sums.specs.Window.{Alike, Near}
+use Rattle.gaze.specs.SegmentScore.{rate, rate_at, largest_rate}
+use Rattle.slots.specs.Slots.{Rising}
+use Rattle.sums.specs.declared.window.Window.{Window}
+use Rattle.sums.specs.Window.{Alike, Near, Opened}
+use Rattle.sums.proofs.Largest.{join, join_swap, join_regroup, value, top, top_joined, largest_is}
 
--- ---- at one base
--- the maximum over all and over part of them is the same; and where some were left out, 0 has entered it
-pub record Agreed (x : ℕ) (all part : List Segment) (far : Bool) : Type 0 where
-  pub any : Bool
-  pub value : ℤ
-  pub all_is : Picked (enters x x) (held x) all any value
-  pub part_is : Picked (enters x x) (held x) part any value
-  pub zero_in : far ≡ true → Beaten any value (pos 0)
+-- ---- what a segment gives at a base
+rate_before : (x : ℕ) (g : Segment) → x < g.start → rate_at x g ≡ pos 0
+rate_before x g h = simp (lt-leb g.start x h)
 
-agreed_none : (x : ℕ) {all part : List Segment} → all ≡ [] → part ≡ [] → Agreed x all part false
-agreed_none x h k =
-    record {
-      any = false;
-      value = pos 0;
-      all_is = pick_none (enters x x) (held x) h;
-      part_is = pick_none (enters x x) (held x) k;
-      zero_in = λ e. absurd (true≢false (sym e));
-    }
-
--- a maximum that is not below 0 is not beaten by 0
-not_beaten : {any : Bool} {value : ℤ} → any ≡ true → le_z (pos 0) value ≡ true → Beaten any value (pos 0)
-not_beaten h k = record { any_is = h; above_0 = k; above_z = k }
-
-module _ (x : ℕ) {all part all' : List Segment} (g : Segment) (All-more : all' ≡ all ++ (g ∷ [])) where
-  -- one that is kept: where it gives 0, it may stand for others
-  agreed_kept : {part' : List Segment} (far far' : Bool) → part' ≡ part ++ (g ∷ []) → Agreed x all part far → (far' ≡ true → (far ≡ true) ⊎ (held x g ≡ pos 0)) → Agreed x all' part' far'
-  agreed_kept far far' part_more a why =
-      let look : Looked (enters x x g) a.any a.value (held x g) true (cond a.any (larger_of a.value (held x g)) (held x g)) = record { any_is = refl; value_is = refl } in
-      record {
-        any = true;
-        value = cond a.any (larger_of a.value (held x g)) (held x g);
-        all_is = pick_step (enters x x) (held x) g All-more a.all_is look;
-        part_is = pick_step (enters x x) (held x) g part_more a.part_is look;
-        zero_in = λ e. not_beaten refl (go (why e));
-      }
-    where
-      above : (b : Bool) (value : ℤ) → le_z (pos 0) (cond b (larger_of value (pos 0)) (pos 0)) ≡ true
-      above true value = larger_of_zero value
-      above false value = refl
-
-      go : (far ≡ true) ⊎ (held x g ≡ pos 0) → le_z (pos 0) (cond a.any (larger_of a.value (held x g)) (held x g)) ≡ true
-      go (inl e) = let b = a.zero_in e in rw b.any_is (larger_above a.value (held x g) b.above_0)
-      go (inr e) = rw e (above a.any a.value)
-
-  -- one that is left out: it gives 0, as one before it
-  agreed_left : held x g ≡ pos 0 → Agreed x all part true → Agreed x all' part true
-  agreed_left h a =
-      let b = a.zero_in refl in
-      record {
-        any = a.any;
-        value = a.value;
-        all_is = pick_step (enters x x) (held x) g All-more a.all_is (looked_kept refl b.any_is (rw h (larger_kept a.value (pos 0) b.above_0)));
-        part_is = a.part_is;
-        zero_in = a.zero_in;
-      }
-
--- two lists that agree have the same peak, whatever is added to both
-agreed_alike : (x : ℕ) {one other : List Segment} {any : Bool} {value : ℤ} → Picked (enters x x) (held x) one any value → Picked (enters x x) (held x) other any value
-    → Alike x one other
-agreed_alike x {one} {other} p q [] = rw (append-nil one, append-nil other) (sym p.value_is ∙ q.value_is)
-agreed_alike x {one} {other} {any} {value} p q (g ∷ more) =
-    let look : Looked (enters x x g) any value (held x g) true (cond any (larger_of value (held x g)) (held x g)) = record { any_is = refl; value_is = refl } in
-    rw (← append_assoc one (g ∷ []) more, ← append_assoc other (g ∷ []) more)
-    (agreed_alike x {one = one ++ (g ∷ [])} {other = other ++ (g ∷ [])} (pick_step (enters x x) (held x) g refl p look) (pick_step (enters x x) (held x) g refl q look) more)
-
--- a segment that ends before `from` gives 0 from there on
-ended : (from x start end : ℕ) (z : ℤ) → leb from end ≡ false → from ≤ x → held x (stretch start end z) ≡ pos 0
-ended from x start end z h l = at (at_or_below start x)
+rate_behind : (x : ℕ) (g : Segment) → g.end < x → rate_at x g ≡ pos 0
+rate_behind x g h = go (leb g.start x) (leb x g.end) (lt-leb x g.end h)
   where
-    at : (start ≤ x) ⊎ (x < start) → held x (stretch start end z) ≡ pos 0
-    at (inl b) = held_behind x start end z b (let k = leb-false from end h in omega arith)
-    at (inr b) = held_before x start end z b
+    go : (a b : Bool) → b ≡ false → cond (a && b) (rate g) (pos 0) ≡ pos 0
+    go true b e = rw e refl
+    go false b e = refl
 
--- ---- rows are dropped where they stand: row i is looked at, o are kept so far, and from i on nothing is changed
-pub record Nearing (starts₀ ends₀ : List ℕ) (rates₀ : List ℤ) (from : ℕ) (starts ends : List ℕ) (rates : List ℤ) (i o : ℕ) (far : Bool) : Type 0 where
-  pub few : o ≤ i
-  pub starts_long : length starts ≡ length starts₀
-  pub ends_long : length ends ≡ length ends₀
-  pub rates_long : length rates ≡ length rates₀
-  pub starts_left : (j : ℕ) → i ≤ j → get_or starts j 0 ≡ get_or starts₀ j 0
-  pub ends_left : (j : ℕ) → i ≤ j → get_or ends j 0 ≡ get_or ends₀ j 0
-  pub rates_left : (j : ℕ) → i ≤ j → get_or rates j (pos 0) ≡ get_or rates₀ j (pos 0)
-  pub each : (j : ℕ) → 0 ≤ j → j < o → Good 10000000000 (get_or starts j 0) (get_or ends j 0) (get_or rates j (pos 0))
-  pub agreed : (kind x : ℕ) → from ≤ x → Agreed x (rows kind starts₀ ends₀ rates₀ 0 i) (rows kind starts ends rates 0 o) far
+-- ---- a 0 that has entered
+record Zeroed (top : Option ℤ) : Type 0 where
+  pub is : join top (Some (pos 0)) ≡ top
 
-module _ (starts₀ ends₀ : List ℕ) (rates₀ : List ℤ) (from : ℕ) where
-  pub nearing_none : Nearing starts₀ ends₀ rates₀ from starts₀ ends₀ rates₀ 0 0 false
-  nearing_none =
-      record {
-        few = omega arith;
-        starts_long = refl;
-        ends_long = refl;
-        rates_long = refl;
-        starts_left = λ j h. refl;
-        ends_left = λ j h. refl;
-        rates_left = λ j h. refl;
-        each = λ j l u. absurd (none_below j u);
-        agreed = λ kind x l. agreed_none x (listed_none (row kind starts₀ ends₀ rates₀) 0 0 refl) (listed_none (row kind starts₀ ends₀ rates₀) 0 0 refl);
-      }
-    where
-      none_below : (j : ℕ) → j < 0 → ⊥
-      none_below j u = omega arith
+zeroed_first : (a : Option ℤ) → Zeroed (join (Some (pos 0)) a)
+zeroed_first a =
+    record { is = join_swap (join (Some (pos 0)) a) (Some (pos 0)) ∙ sym (join_regroup (Some (pos 0)) (Some (pos 0)) a) }
 
-  module _ {starts ends : List ℕ} {rates : List ℤ} {i o : ℕ} (good : Good 10000000000 (get_or starts₀ i 0) (get_or ends₀ i 0) (get_or rates₀ i (pos 0))) where
-    written : {far : Bool} (far' : Bool) → Nearing starts₀ ends₀ rates₀ from starts ends rates i o far → Room o 1 starts ends rates
-        → (far' ≡ true → (far ≡ true) ⊎ (leb from (get_or ends₀ i 0) ≡ false))
-        → Nearing starts₀ ends₀ rates₀ from (set starts o (get_or starts₀ i 0)) (set ends o (get_or ends₀ i 0)) (set rates o (get_or rates₀ i (pos 0))) (i + 1) (o + 1) far'
-    written {far} far' q room why =
-        let start = get_or starts₀ i 0 in
-        let end = get_or ends₀ i 0 in
-        let rate = get_or rates₀ i (pos 0) in
+zeroed_more : (a b : Option ℤ) → Zeroed b → Zeroed (join a b)
+zeroed_more a b z = record { is = join_regroup a b (Some (pos 0)) ∙ ap (join a) z.is }
+
+zeroed_at : (x : ℕ) (d : Segment) (l : List Segment) (i : ℕ) → i < length l → rate_at x (get_or l i d) ≡ pos 0 → Zeroed (top x l)
+zeroed_at x d [] i h e = absurd (none h)
+  where
+    none : {i : ℕ} → i < 0 → ⊥
+    none h = omega arith
+zeroed_at x d (g ∷ l) zero h e = rw e (zeroed_first (top x l))
+zeroed_at x d (g ∷ l) (suc i) h e = zeroed_more (Some (rate_at x g)) (top x l) (zeroed_at x d l i (omega arith) e)
+
+-- segments that give 0 add nothing to it
+idle_added : (x : ℕ) (d : Segment) (a : Option ℤ) (l : List Segment) → Zeroed a → ((i : ℕ) → i < length l → rate_at x (get_or l i d) ≡ pos 0) → join a (top x l) ≡ a
+idle_added x d None [] z h = refl
+idle_added x d (Some a) [] z h = refl
+idle_added x d a (g ∷ l) z h =
+    ap (λ (r : ℤ). join a (join (Some r) (top x l))) (h zero (omega arith))
+    ∙ (sym (join_regroup a (Some (pos 0)) (top x l))
+    ∙ (ap (λ (b : Option ℤ). join b (top x l)) z.is ∙ idle_added x d a l z (λ i u. h (suc i) (omega arith))))
+
+-- ---- one list for another
+alike_same : (x : ℕ) (one other : List Segment) → top x one ≡ top x other → Alike x one other
+alike_same x one other h more =
+    largest_is (one ++ more) x
+    ∙ (ap value (top_joined x one more ∙ (ap (λ (a : Option ℤ). join a (top x more)) h ∙ sym (top_joined x other more)))
+    ∙ sym (largest_is (other ++ more) x))
+
+-- ---- segments that are dropped
+dropped : (x : ℕ) (stays : Segment → Bool) (l : List Segment) → ((g : Segment) → stays g ≡ false → rate_at x g ≡ pos 0)
+    → join (top x (filter stays l)) (Some (pos 0)) ≡ join (top x l) (Some (pos 0))
+dropped x stays [] h = refl
+dropped x stays (g ∷ l) h = go (stays g) refl (dropped x stays l h)
+  where
+    go : (b : Bool) → stays g ≡ b → join (top x (filter stays l)) (Some (pos 0)) ≡ join (top x l) (Some (pos 0))
+        → join (top x (cond b (g ∷ filter stays l) (filter stays l))) (Some (pos 0)) ≡ join (join (Some (rate_at x g)) (top x l)) (Some (pos 0))
+    go true e k =
+        join_regroup (Some (rate_at x g)) (top x (filter stays l)) (Some (pos 0))
+        ∙ (ap (join (Some (rate_at x g))) k ∙ sym (join_regroup (Some (rate_at x g)) (top x l) (Some (pos 0))))
+    go false e k =
+        k
+        ∙ (join_swap (top x l) (Some (pos 0))
+        ∙ (sym (zeroed_first (top x l)).is
+        ∙ ap (λ (r : ℤ). join (join (Some r) (top x l)) (Some (pos 0))) (sym (h g e))))
+
+no_more : (stays : Segment → Bool) (l : List Segment) → length (filter stays l) ≤ length l
+no_more stays [] = omega arith
+no_more stays (g ∷ l) = go (stays g) (no_more stays l)
+  where
+    go : (b : Bool) → length (filter stays l) ≤ length l → length (cond b (g ∷ filter stays l) (filter stays l)) ≤ suc (length l)
+    go true k = omega arith
+    go false k = omega arith
+
+-- one that does not stay
+record Found (stays : Segment → Bool) (l : List Segment) (g : Segment) : Type 0 where
+  pub goes : stays g ≡ false
+  pub fewer : length (filter stays l) < length l
+  pub zeroed : (x : ℕ) → rate_at x g ≡ pos 0 → Zeroed (top x l)
+
+found : (stays : Segment → Bool) (l : List Segment) (g : Segment) → find (λ f. not (stays f)) l ≡ Some g → Found stays l g
+found stays [] g e = absurd (cc)
+found stays (f ∷ l) g e = go (stays f) refl (found stays l g)
+  where
+    go : (b : Bool) → stays f ≡ b → (find (λ f. not (stays f)) l ≡ Some g → Found stays l g) → Found stays (f ∷ l) g
+    go true k later =
+        let r = later (rw k at e) in
         record {
-          few = omega (arith, q.few);
-          starts_long = length-set starts o start ∙ q.starts_long;
-          ends_long = length-set ends o end ∙ q.ends_long;
-          rates_long = length-set rates o rate ∙ q.rates_long;
-          starts_left = λ j h. get_or-set_other starts o j start 0 (λ e. omega (arith, q.few)) ∙ q.starts_left j (omega arith);
-          ends_left = λ j h. get_or-set_other ends o j end 0 (λ e. omega (arith, q.few)) ∙ q.ends_left j (omega arith);
-          rates_left = λ j h. get_or-set_other rates o j rate (pos 0) (λ e. omega (arith, q.few)) ∙ q.rates_left j (omega arith);
-          each = goods_put 0 0 o start end rate starts ends rates room q.each good;
-          agreed = λ kind x l.
-              agreed_kept x (row kind starts₀ ends₀ rates₀ i) (listed_more (row kind starts₀ ends₀ rates₀) 0 i (omega arith)) far far'
-              (rows_put kind 0 o start end rate starts ends rates room (omega arith)) (q.agreed kind x l) (λ e. reason x l (why e));
+          goes = r.goes;
+          fewer = rw k (omega (arith, r.fewer));
+          zeroed = λ x z. zeroed_more (Some (rate_at x f)) (top x l) (r.zeroed x z);
         }
+    go false k later =
+        let one : Some f ≡ Some g = rw k at e in
+        let is : f ≡ g = cc in
+        record {
+          goes = rw (← is) k;
+          fewer = rw k (omega (arith, no_more stays l));
+          zeroed = λ x z. rw (is, z) (zeroed_first (top x l));
+        }
+
+none_goes : (stays : Segment → Bool) (l : List Segment) → find (λ f. not (stays f)) l ≡ None → filter stays l ≡ l
+none_goes stays [] e = refl
+none_goes stays (f ∷ l) e = go (stays f) refl (none_goes stays l)
+  where
+    go : (b : Bool) → stays f ≡ b → (find (λ f. not (stays f)) l ≡ None → filter stays l ≡ l) → cond b (f ∷ filter stays l) (filter stays l) ≡ f ∷ l
+    go true k later = ap (λ (m : List Segment). f ∷ m) (later (rw k at e))
+    go false k later = let never : Some f ≡ None = rw k at e in absurd (cc)
+
+-- those that end before `from` are dropped but for one
+module _ (from : ℕ) (all kept : List Segment) (is : kept ≡ filter (λ f. leb from f.end) all) where
+  pub near_all : find (λ f. not (leb from f.end)) all ≡ None → Near from all kept
+  near_all none = rw (is, none_goes (λ f. leb from f.end) all none) (record { few = omega arith; alike = λ x u more. refl })
+
+  module _ (g : Segment) (first : find (λ f. not (leb from f.end)) all ≡ Some g) where
+    close_room : length kept < length all
+    close_room = rw is (found (λ f. leb from f.end) all g first).fewer
+
+    pub near_closed : (some : List Segment) → some ≡ kept ++ (g ∷ []) → Near from all some
+    near_closed some e =
+        rw e
+        (record { few = simp length-append (omega (arith, close_room)); alike = λ x u. alike_same x (kept ++ (g ∷ [])) all (rw is (same x u)) })
       where
-        reason : (x : ℕ) → from ≤ x → (far ≡ true) ⊎ (leb from (get_or ends₀ i 0) ≡ false)
-            → (far ≡ true) ⊎ (held x (stretch (get_or starts₀ i 0) (get_or ends₀ i 0) (get_or rates₀ i (pos 0))) ≡ pos 0)
-        reason x l (inl e) = inl e
-        reason x l (inr e) = inr (ended from x (get_or starts₀ i 0) (get_or ends₀ i 0) (get_or rates₀ i (pos 0)) e l)
+        gives_none : (x : ℕ) (f : Segment) → from ≤ x → leb from f.end ≡ false → rate_at x f ≡ pos 0
+        gives_none x f u e = rate_behind x f (let k = leb-false from f.end e in omega arith)
 
-    left_out : leb from (get_or ends₀ i 0) ≡ false → Nearing starts₀ ends₀ rates₀ from starts ends rates i o true
-        → Nearing starts₀ ends₀ rates₀ from starts ends rates (i + 1) o true
-    left_out h q =
-        record {
-          few = omega (arith, q.few);
-          starts_long = q.starts_long;
-          ends_long = q.ends_long;
-          rates_long = q.rates_long;
-          starts_left = λ j l. q.starts_left j (omega arith);
-          ends_left = λ j l. q.ends_left j (omega arith);
-          rates_left = λ j l. q.rates_left j (omega arith);
-          each = q.each;
-          agreed = λ kind x l.
-              agreed_left x (row kind starts₀ ends₀ rates₀ i) (listed_more (row kind starts₀ ends₀ rates₀) 0 i (omega arith))
-              (ended from x (get_or starts₀ i 0) (get_or ends₀ i 0) (get_or rates₀ i (pos 0)) h l) (q.agreed kind x l);
-        }
+        same : (x : ℕ) → from ≤ x → top x (filter (λ f. leb from f.end) all ++ (g ∷ [])) ≡ top x all
+        same x u =
+            let one = found (λ f. leb from f.end) all g first in
+            let e : rate_at x g ≡ pos 0 = gives_none x g u one.goes in
+            top_joined x (filter (λ f. leb from f.end) all) (g ∷ [])
+            ∙ (ap (λ (r : ℤ). join (top x (filter (λ f. leb from f.end) all)) (Some r)) e
+            ∙ (dropped x (λ f. leb from f.end) all (λ f k. gives_none x f u k)
+            ∙ (one.zeroed x e).is))
 
-    one_more : {starts' ends' : List ℕ} {rates' : List ℤ} {o' : ℕ} (lasts far far' : Bool) → lasts ≡ leb from (get_or ends₀ i 0)
-        → Nearing starts₀ ends₀ rates₀ from starts ends rates i o far → Room o 1 starts ends rates
-        → Put (lasts || not far) o (get_or starts₀ i 0) (get_or ends₀ i 0) (get_or rates₀ i (pos 0)) starts ends rates o' starts' ends' rates' → far' ≡ (far || not lasts)
-        → Nearing starts₀ ends₀ rates₀ from starts' ends' rates' (i + 1) o' far'
-    one_more true true far' t q room p e = rw (p.o_is, p.starts_is, p.ends_is, p.scores_is, e) (written true q room (λ y. inl refl))
-    one_more true false far' t q room p e = rw (p.o_is, p.starts_is, p.ends_is, p.scores_is, e) (written false q room (λ y. absurd (true≢false (sym y))))
-    one_more false true far' t q room p e = rw (p.o_is, p.starts_is, p.ends_is, p.scores_is, e) (left_out (sym t) q)
-    one_more false false far' t q room p e = rw (p.o_is, p.starts_is, p.ends_is, p.scores_is, e) (written true q room (λ y. inr (sym t)))
+pub room_left : (from : ℕ) (all kept : List Segment) → kept ≡ filter (λ f. leb from f.end) all → length all ≤ 1024
+    → (r : Option Segment) → r ≡ find (λ f. not (leb from f.end)) all → IfSome r (λ g. length kept < 1024)
+room_left from all kept is h None e = tt
+room_left from all kept is h (Some g) e = omega (arith, close_room from all kept is g (sym e))
 
-    pub nearing_more : {starts' ends' : List ℕ} {rates' : List ℤ} {o' : ℕ} (far far' : Bool)
-        → Nearing starts₀ ends₀ rates₀ from starts ends rates i o far → Room o 1 starts ends rates
-        → Put (leb from (get_or ends i 0) || not far) o (get_or starts i 0) (get_or ends i 0) (get_or rates i (pos 0)) starts ends rates o' starts' ends' rates'
-        → far' ≡ (far || not (leb from (get_or ends i 0))) → Nearing starts₀ ends₀ rates₀ from starts' ends' rates' (i + 1) o' far'
-    nearing_more far far' q room p e =
-        let s = q.starts_left i (omega arith) in
-        let t = q.ends_left i (omega arith) in
-        let r = q.rates_left i (omega arith) in
-        one_more (leb from (get_or ends₀ i 0)) far far' refl q room (rw (s, t, r) at p) (rw t at e)
+-- ---- segments that are opened
+-- the first of those that start behind a base is as good as all
+first_enough : (x n : ℕ) (g : Segment) (segments : List Segment) → Rising segments → n < length segments → g ≡ get_or segments n g → x < g.start
+    → largest_rate (take (n + 1) segments) x ≡ largest_rate segments x
+first_enough x n g segments rising h is u =
+    let some = take (n + 1) segments in
+    let rest = drop (n + 1) segments in
+    let one : get_or some n g ≡ g = get_or-take (n + 1) segments n g (omega arith) ∙ sym is in
+    let zeroed : Zeroed (top x some) = zeroed_at x g some n (rw (length-take (n + 1) segments) (omega arith)) (rw one (rate_before x g u)) in
+    let none : join (top x some) (top x rest) ≡ top x some = idle_added x g (top x some) rest zeroed (λ i l. later i (omega (arith, l, length-drop (n + 1) segments))) in
+    largest_is some x ∙ (ap value (sym none ∙ sym (top_joined x some rest)) ∙ (sym (largest_is (some ++ rest) x) ∙ ap (λ (l : List Segment). largest_rate l x) (take-append-drop (n + 1) segments)))
+  where
+    later : (i : ℕ) → n + 1 + i < length segments → rate_at x (get_or (drop (n + 1) segments) i g) ≡ pos 0
+    later i l =
+        let behind = rising n (n + 1 + i) g (omega arith) l in
+        let e : (get_or segments n g).start ≡ g.start = ap (λ (f : Segment). f.start) (sym is) in
+        rw (get_or-drop (n + 1) segments i g) (rate_before x (get_or segments (n + 1 + i) g) (omega arith))
 
-  pub nearing_room : {starts ends : List ℕ} {rates : List ℤ} {i o count : ℕ} {far : Bool} → i < count → Sound 10000000000 starts₀ ends₀ rates₀ 0 count
-      → Nearing starts₀ ends₀ rates₀ from starts ends rates i o far → Room o 1 starts ends rates
-  nearing_room h r q =
+-- what stands at i of those from n on
+pub at_rest : (n : ℕ) (l : List Segment) (i : ℕ) (g : Segment) → i < length (take (length l - n) (drop n l)) → g ≡ get_or (take (length l - n) (drop n l)) i g
+    → (n + i < length l) × (g ≡ get_or l (n + i) g)
+at_rest n l i g h is =
+    let e : take (length l - n) (drop n l) ≡ drop n l = take_all (length l - n) (drop n l) (rw (length-drop n l) (omega arith)) in
+    let k : i < length l - n = rw (e, length-drop n l) at h in
+    (omega arith, rw (e, get_or-drop n l i g) at is)
+
+module _ (segments : List Segment) {from : ℕ} {window : Window} (q : Opened segments from window) where
+  -- the next one is opened
+  pub opened_more : (g : Segment) (window' : Window) → Rising segments → window.next < length segments → g ≡ get_or segments window.next g → g.start ≤ 4000000
+      → window'.rows.items ≡ window.rows.items ++ (g ∷ []) → window'.next ≡ window.next + 1 → window'.ahead ≡ g.start → Opened segments from window'
+  opened_more g window' rising h is low rows next ahead =
       record {
-        starts_room = omega (arith, q.few, q.starts_long, r.starts_long);
-        ends_room = omega (arith, q.few, q.ends_long, r.ends_long);
-        scores_room = omega (arith, q.few, q.rates_long, r.scores_long);
+        within = omega arith;
+        bounded = omega arith;
+        few = rw rows (simp length-append (omega (arith, q.few)));
+        alike = λ x u more.
+            rw (rows, next, take_more segments window.next g h, ← is, append_assoc window.rows.items (g ∷ []) more, append_assoc (take window.next segments) (g ∷ []) more)
+            (q.alike x u (g ∷ more));
+        enough = λ x u. rw next (first_enough x window.next g segments rising h is (omega arith));
       }
-
-  pub nearing_all : {starts ends : List ℕ} {rates : List ℤ} {i o count : ℕ} {far : Bool} → i ≡ count → Sound 10000000000 starts₀ ends₀ rates₀ 0 count
-      → Nearing starts₀ ends₀ rates₀ from starts ends rates i o far → Near starts₀ ends₀ rates₀ from count o starts ends rates
-  nearing_all {o = o} e r q =
-      rw (← e)
-      (record {
-        few = q.few;
-        sound = record {
-          ordered = omega arith;
-          starts_long = omega (arith, q.few, q.starts_long, r.starts_long);
-          ends_long = omega (arith, q.few, q.ends_long, r.ends_long);
-          scores_long = omega (arith, q.few, q.rates_long, r.scores_long);
-          each = q.each;
-        };
-        alike = λ kind x l. let a = q.agreed kind x l in agreed_alike x a.part_is a.all_is;
-      })
-
--- ---- rows that start behind a base
-module _ (starts ends : List ℕ) (rates : List ℤ) (lo next hi kind x : ℕ) (begun : lo ≤ next) (behind : (k : ℕ) → next ≤ k → k < hi → x < get_or starts k 0) where
-  same_list : (l : List Segment) → Agreed x l l false
-  same_list l =
-      record {
-        any = _;
-        value = _;
-        all_is = record { any_is = refl; value_is = refl };
-        part_is = record { any_is = refl; value_is = refl };
-        zero_in = λ e. absurd (true≢false (sym e));
-      }
-
-  gives_none : (k : ℕ) → next ≤ k → k < hi → held x (row kind starts ends rates k) ≡ pos 0
-  gives_none k l h = held_before x (get_or starts k 0) (get_or ends k 0) (get_or rates k (pos 0)) (behind k l h)
-
-  later_first : next < hi → Agreed x (rows kind starts ends rates lo (next + 1)) (rows kind starts ends rates lo (next + 1)) true
-  later_first h =
-      agreed_kept x (row kind starts ends rates next) (listed_more (row kind starts ends rates) lo next begun) false true
-      (listed_more (row kind starts ends rates) lo next begun) (same_list (rows kind starts ends rates lo next)) (λ t. inr (gives_none next (omega arith) h))
-
-  later_one : (k : ℕ) → next < k → k < hi → Agreed x (rows kind starts ends rates lo k) (rows kind starts ends rates lo (next + 1)) true
-      → Agreed x (rows kind starts ends rates lo (k + 1)) (rows kind starts ends rates lo (next + 1)) true
-  later_one k l h a =
-      agreed_left x (row kind starts ends rates k) (listed_more (row kind starts ends rates) lo k (omega arith)) (gives_none k (omega arith) h) a
-
-  later : (n m : ℕ) → next + 1 + n ≡ m → m ≤ hi → Agreed x (rows kind starts ends rates lo m) (rows kind starts ends rates lo (next + 1)) true
-  later zero m e h =
-      let f : next + 1 ≡ m = omega arith in
-      subst (λ (k : ℕ). Agreed x (rows kind starts ends rates lo k) (rows kind starts ends rates lo (next + 1)) true) f (later_first (omega arith))
-  later (suc n) m e h =
-      let f : next + 1 + n + 1 ≡ m = omega arith in
-      subst (λ (k : ℕ). Agreed x (rows kind starts ends rates lo k) (rows kind starts ends rates lo (next + 1)) true) f
-      (later_one (next + 1 + n) (omega arith) (omega arith) (later n (next + 1 + n) refl (omega arith)))
-
-  -- the first of them is as good as all
-  pub first_enough : next < hi → peak (rows kind starts ends rates lo (next + 1)) x ≡ peak (rows kind starts ends rates lo hi) x
-  first_enough h = let a = later (hi - (next + 1)) hi (omega arith) (omega arith) in sym a.part_is.value_is ∙ a.all_is.value_is

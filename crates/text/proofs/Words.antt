@@ -1,32 +1,28 @@
--- Laws of `before`, `onwards` and `next_place`: as a search goes along a text, and what its result says of the text.
-use mathlib.Core.Bool.{Bool, true, false, cond}
-use mathlib.Core.List.{List, [], ◌∷◌, ◌++◌}
-use mathlib.Core.Path.{◌≡◌, refl, sym, ap, ◌∙◌}
-use Prim.Native.Nat.{ℕ, ◌+◌, ◌-◌, ◌<◌, ◌≤◌}
-use native.Mathlib.Numerals.{add-one}
-use native.Mathlib.Omega.{arith}
-use lib.Dec.{eqb}
-use lib.ListN.{length, get_or, take, drop, drop_of_length-le, length-append, length-drop}
-use lib.Seq.{drop-cons, drop-drop, take_all, take-append_seam, drop-append_seam}
-use borrow.Author.Tests.{eq-eqb, ne_eqb}
+-- Laws of `before`, `onwards` and `next_place`: where a search finds the separator, and what its result says of the text.
+use Rattle.std.proofs.Common.{◌≡◌, refl, sym, Bool, true, false, cond, List, [], ◌∷◌, ◌++◌, ℕ, ◌+◌, ◌-◌, ◌<◌, ◌≤◌, ◌∙◌, eqb, length, ap, take, drop, Option, arith, length-append, length-drop}
+use Rattle.std.proofs.Math.Seq.{take-append_seam, drop-append_seam, drop-drop}
+use Rattle.std.proofs.lemmas.Bool.{eq-eqb, ne_eqb}
+use Rattle.std.proofs.lemmas.Iterator.{index_from_first}
+use Rattle.std.specs.List.{AllWithin, HoldsAt}
+use Rattle.std.specs.Option.{MatchOption, unwrap_or}
 use Rattle.text.specs.Words.{before, onwards, next_place}
 
--- ---- along a text
-module _ (separator : ℕ) (text : List ℕ) (i : ℕ) where
-  pub next_here : i < length text → get_or text i 0 ≡ separator → next_place separator i text ≡ i
-  unfolding next_place before
-  next_here h e = rw (drop-cons text i 0) (simp (eq-eqb (get_or text i 0) separator e) (omega arith))
+-- what `position` finds
+pub first_separator : (separator : ℕ) (text : List ℕ) (r : Option ℕ)
+    → MatchOption r (AllWithin (λ b. b ≡ separator → ⊥) text 0 (length text)) (λ i. (i < length text) × HoldsAt (λ b. b ≡ separator) text i × AllWithin (λ b. b ≡ separator → ⊥) text 0 i)
+    → length (before separator text) ≡ unwrap_or r (length text)
+unfolding before
+first_separator separator =
+    index_from_first
+    (λ w. length (before separator w))
+    (λ b. b ≡ separator)
+    (λ b. b ≡ separator → ⊥)
+    refl
+    (λ b w e. simp (eq-eqb b separator e))
+    (λ b w e. simp (ne_eqb b separator e) (omega arith))
 
-  pub next_later : i < length text → (get_or text i 0 ≡ separator → ⊥) → next_place separator i text ≡ next_place separator (i + 1) text
-  unfolding next_place before
-  next_later h e = rw (drop-cons text i 0) (simp (ne_eqb (get_or text i 0) separator e, ← add-one i) (omega arith))
-
-  pub next_none : length text ≤ i → next_place separator i text ≡ i
-  unfolding next_place before
-  next_none h = rw (drop_of_length-le text h) (omega arith)
-
--- ---- what a search says
-pub parts : (separator : ℕ) (text : List ℕ) → before separator text ++ onwards separator text ≡ text
+-- ---- a text is what stands before the separator and what stands from there on
+parts : (separator : ℕ) (text : List ℕ) → before separator text ++ onwards separator text ≡ text
 unfolding before onwards
 parts separator [] = refl
 parts separator (byte ∷ text) = go (eqb byte separator) (parts separator text)
@@ -34,7 +30,13 @@ parts separator (byte ∷ text) = go (eqb byte separator) (parts separator text)
     go : (t : Bool) → before separator text ++ onwards separator text ≡ text
         → cond t [] (byte ∷ before separator text) ++ cond t (byte ∷ text) (onwards separator text) ≡ byte ∷ text
     go true e = refl
-    go false e = ap (λ (w : List ℕ). byte ∷ w) e
+    go false e = ap (λ w. byte ∷ w) e
+
+pub before_is : (separator : ℕ) (text : List ℕ) → before separator text ≡ take (length (before separator text)) text
+before_is separator text = sym (ap (take (length (before separator text))) (sym (parts separator text)) ∙ take-append_seam (before separator text) (onwards separator text))
+
+pub onwards_is : (separator : ℕ) (text : List ℕ) → onwards separator text ≡ drop (length (before separator text)) text
+onwards_is separator text = sym (ap (drop (length (before separator text))) (sym (parts separator text)) ∙ drop-append_seam (before separator text) (onwards separator text))
 
 -- r is where the first separator of the text from `place` on stands, or the end of the text
 pub record Found (separator place : ℕ) (text : List ℕ) (r : ℕ) : Type 0 where
@@ -47,19 +49,12 @@ pub found : (separator place : ℕ) (text : List ℕ) (r : ℕ) → place ≤ le
 unfolding next_place
 found separator place text r h e =
     let s = drop place text in
-    let b = before separator s in
-    let o = onwards separator s in
-    let p = parts separator s in
-    let l = simp length-append at (ap length p) in
-    let n : length b ≡ r - place = omega arith in
-    let m : place + length b ≡ r = omega arith in
+    let l = simp length-append at (ap length (parts separator s)) in
+    let n : length (before separator s) ≡ r - place = omega arith in
+    let m : place + length (before separator s) ≡ r = omega arith in
     record {
       low = omega arith;
       high = omega (arith, length-drop place text);
-      word = sym (ap (λ (k : ℕ). take k s) (sym n) ∙ ap (take (length b)) (sym p) ∙ take-append_seam b o);
-      rest = sym (ap (λ (k : ℕ). drop k text) (sym m) ∙ sym (drop-drop (length b) place text) ∙ ap (drop (length b)) (sym p) ∙ drop-append_seam b o);
+      word = before_is separator s ∙ ap (λ k. take k s) n;
+      rest = onwards_is separator s ∙ drop-drop (length (before separator s)) place text ∙ ap (λ k. drop k text) m;
     }
-
--- the part of a slice from a place to its end
-pub part_to_end : (text : List ℕ) (place : ℕ) → take (length text - place) (drop place text) ≡ drop place text
-part_to_end text place = take_all (length text - place) (drop place text) (omega (arith, length-drop place text))

@@ -1,8 +1,6 @@
 -- A sheet number: 1 to 9 decimal digits with no leading zero (0 alone is fine), with "-" before it if negative; "-0" is malformed.
 -- A word is a list of bytes.
-use Rattle.std.specs.Prelude.{Bool, true, not, ◌&&◌, cond, List, [], ◌∷◌, ℕ, ◌+◌, ◌-◌, ◌*◌, ltb, leb, eqb, pos, neg_ℤ, length, get_or}
-use Rattle.text.specs.declared.Number.{Number}
-use Rattle.text.specs.declared.Number.TheVariants.{Is, Malformed}
+use Rattle.std.specs.Prelude.{Bool, true, not, ◌&&◌, cond, List, [], ◌∷◌, ℕ, ◌+◌, ◌-◌, ◌*◌, ltb, leb, eqb, ℤ, pos, neg_ℤ, length, get_or, Option, Some, None}
 
 -- "0" to "9"
 abbrev pub is_digit : ℕ → Bool
@@ -28,15 +26,15 @@ leading_zero word = ltb 1 (length word) && eqb (get_or word 0 0) 48
 unfoldable pub plain : List ℕ → Bool
 plain word = leb 1 (length word) && leb (length word) 9 && not (leading_zero word) && all_digits word
 
--- the number that a word with no sign writes
-unfoldable pub unsigned : List ℕ → Number
-unsigned word = cond (plain word) (Is (pos (value word))) Malformed
+-- the number that a word with no sign writes, if it writes one
+unfoldable pub unsigned : List ℕ → Option ℤ
+unsigned word = cond (plain word) (Some (pos (value word))) None
 
 -- the number that "-" and this word write: "-0" is malformed
-unfoldable pub negative : List ℕ → Number
-negative word = cond (plain word && not (eqb (value word) 0)) (Is (neg_ℤ (pos (value word)))) Malformed
+unfoldable pub negative : List ℕ → Option ℤ
+negative word = cond (plain word && not (eqb (value word) 0)) (Some (neg_ℤ (pos (value word)))) None
 
--- the number that a word writes
-unfoldable pub number : List ℕ → Number
-number [] = Malformed
+-- the number that a word writes, if it writes one
+unfoldable pub number : List ℕ → Option ℤ
+number [] = None
 number (byte ∷ word) = cond (eqb byte 45) (negative word) (unsigned (byte ∷ word))

@@ -2,181 +2,119 @@
 
 #![tactic(auto)]
 
-ghost use Rattle.std.specs.Prelude.{◌≡◌, true, ◌≤◌, length};
-ghost use Rattle.text.specs.Number.{is_digit, all_digits, value, leading_zero, plain, unsigned, negative, number};
-ghost use Rattle.text.specs.Words.{next_place};
-ghost use Rattle.text.specs.Fields.{malformed, fields, line, row_of};
-
-// What a word writes.
-#[derive(Drop)]
-pub enum Number {
-    Is(i64),
-    Malformed,
-}
-
-fn is_digit(byte: u8) -> bool
-    ensures { result ≡ is_digit byte }
-{
-    (b'0' <= byte) & (byte <= b'9')
-}
+ghost use Rattle.std.specs.Prelude.{◌≡◌, ◌≢◌, true, List, ◌∷◌, ℕ, ◌≤◌, length, MatchOption};
+ghost use Rattle.text.specs.Number.{all_digits, value, leading_zero, plain, unsigned, negative, number};
+ghost use Rattle.text.specs.Words.{before, onwards, next_place};
+ghost use Rattle.text.specs.Fields.{line};
 
 pub fn all_digits(word: &[u8]) -> bool
     ensures { result ≡ all_digits word.now }
 {
-    let mut i = 0;
-    while i < word.len() {
-        if is_digit(word[i]) {
-            i += 1;
-        } else {
-            return false;
-        }
-    }
-    true
+    word.iter().all(u8::is_ascii_digit)
 }
 
 // The number that at most nine digits write, leading zeros among them.
+#[tactic(auto, using(crate::proofs::Digits::digits_along))]
 pub fn value(digits: &[u8]) -> u64
     requires { (all_digits digits.now ≡ true) × (length digits.now ≤ 9) }
     ensures { result ≡ value digits.now }
 {
-    let mut v: u64 = 0;
-    let mut i = 0;
-    while i < digits.len() {
-        v = 10 * v + (digits[i] - b'0') as u64;
-        i += 1;
+    let mut number = 0;
+    for digit in digits {
+        number = 10 * number + u64::from(*digit - b'0');
     }
-    v
+    number
 }
 
+#[tactic(auto, unfolding(crate::specs::Number::leading_zero))]
 fn leading_zero(word: &[u8]) -> bool
     ensures { result ≡ leading_zero word.now }
 {
-    if word.len() <= 1 {
-        return false;
-    }
-    word[0] == b'0'
+    matches!(word, [b'0', _, ..])
 }
 
 // 1 to 9 digits with no leading zero.
+#[tactic(auto, unfolding(crate::specs::Number::plain))]
 fn is_plain(word: &[u8]) -> bool
     ensures { result ≡ plain word.now }
 {
-    (1 <= word.len()) & (word.len() <= 9) & !leading_zero(word) & all_digits(word)
+    (1..=9).contains(&word.len()) && !leading_zero(word) && all_digits(word)
 }
 
 // The number that a word with no sign writes.
-fn unsigned(word: &[u8]) -> Number
+#[tactic(auto, using(crate::proofs::Digits::plain_words), unfolding(crate::specs::Number::unsigned))]
+fn unsigned(word: &[u8]) -> Option<i64>
     ensures { result ≡ unsigned word.now }
 {
     if is_plain(word) {
-        return Number::Is(value(word) as i64);
+        Some(value(word) as i64)
+    } else {
+        None
     }
-    Number::Malformed
 }
 
 // The number that "-" and `word` write.
-fn negative(word: &[u8]) -> Number
+#[tactic(auto, using(crate::proofs::Digits::plain_words), unfolding(crate::specs::Number::unsigned, crate::specs::Number::negative))]
+fn negative(word: &[u8]) -> Option<i64>
     ensures { result ≡ negative word.now }
 {
-    if is_plain(word) {
-        let v = value(word);
-        if v == 0 {
-            return Number::Malformed;
-        }
-        return Number::Is(0 - v as i64);
-    }
-    Number::Malformed
+    let number = unsigned(word)?;
+    (number != 0).then_some(-number)
 }
 
-pub fn read_number(word: &[u8]) -> Number
+// The number that a word writes, if it writes one.
+#[tactic(auto, using(crate::proofs::Digits::number_unsigned), unfolding(crate::specs::Number::number))]
+pub fn read_number(word: &[u8]) -> Option<i64>
     ensures { result ≡ number word.now }
 {
-    if word.len() == 0 {
-        return Number::Malformed;
+    match word {
+        [b'-', digits @ ..] => negative(digits),
+        _ => unsigned(word),
     }
-    if word[0] == b'-' {
-        return negative(&word[1..]);
-    }
-    unsigned(word)
 }
 
-// The place of the first `separator` at `place` or after it; where there is none, the end of the text.
+// What stands before the first `separator`, and what stands from there on.
+fn cut(text: &[u8], separator: u8) -> (&[u8], &[u8])
+    ensures { (result.0.now ≡ before separator text.now) × (result.1.now ≡ onwards separator text.now) }
+{
+    text.split_at(
+        text.iter()
+            .position(|byte| *byte == separator)
+            .unwrap_or(text.len()),
+    )
+}
+
+// The place of the first `separator` at `place` or after it; where there is none, the end of the text, or `place` if that is beyond the end.
+#[tactic(auto, unfolding(crate::specs::Words::next_place, crate::specs::Words::before))]
 pub fn find(text: &[u8], place: usize, separator: u8) -> usize
     ensures { result ≡ next_place separator place text.now }
 {
-    let mut i = place;
-    while i < text.len() {
-        if text[i] == separator {
-            return i;
-        }
-        i += 1;
+    if text.len() <= place {
+        return place;
     }
-    i
+    let (word, _) = cut(&text[place..], separator);
+    place + word.len()
 }
 
-// A line's fields. Where the line is malformed, and past its fields, the values are 0.
-#[derive(Drop)]
-pub struct Row {
-    pub malformed: bool,
-    pub values: [i64; 10],
-}
-
-fn malformed() -> Row
-    ensures { result ≡ row_of malformed }
+// What stands behind the first byte, where that is `first`.
+fn behind(bytes: &[u8], first: u8) -> Option<&[u8]>
+    ensures { MatchOption result ((rest : List ℕ) → bytes.now ≢ first ∷ rest) (λ rest. bytes.now ≡ first ∷ rest.now) }
 {
-    Row {
-        malformed: true,
-        values: [0i64; 10],
-    }
+    bytes.strip_prefix(&[first])
 }
 
-// `count` fields and nothing after them, each a separator and a number.
-fn read_fields(bytes: &[u8], separator: u8, count: usize) -> Row
-    requires { count ≤ 10 }
-    ensures { result ≡ row_of (fields separator count bytes.now) }
+// The numbers of the `N` fields behind the letter; none where the line is malformed. `bytes` are those of the line without its LF.
+#[tactic(auto, using(crate::proofs::Fields::line_ends))]
+pub fn read_line<const N: usize>(bytes: &[u8], letter: u8, separator: u8) -> Option<[i64; N]>
+    ensures { result ≡ line letter separator N bytes.now }
 {
-    let mut values = [0i64; 10];
-    let mut read = 0;
-    let mut place = 0;
-    while read < count {
-        if place >= bytes.len() {
-            return malformed();
-        }
-        if bytes[place] != separator {
-            return malformed();
-        }
-        let start = place + 1;
-        let end = find(bytes, start, separator);
-        match read_number(&bytes[start..end]) {
-            Number::Is(x) => {
-                values[read] = x;
-            }
-            Number::Malformed => {
-                return malformed();
-            }
-        }
-        place = end;
-        read += 1;
+    let mut rest = behind(bytes, letter)?;
+    let mut row = [0; N];
+    for number in row.iter_mut() {
+        let word = behind(rest, separator)?;
+        let (digits, after) = cut(word, separator);
+        *number = read_number(digits)?;
+        rest = after;
     }
-    if place < bytes.len() {
-        return malformed();
-    }
-    Row {
-        malformed: false,
-        values,
-    }
-}
-
-// The letter and `count` fields. `bytes` are those of the line without its LF.
-pub fn read_line(bytes: &[u8], letter: u8, separator: u8, count: usize) -> Row
-    requires { count ≤ 10 }
-    ensures { result ≡ row_of (line letter separator count bytes.now) }
-{
-    if bytes.len() == 0 {
-        return malformed();
-    }
-    if bytes[0] != letter {
-        return malformed();
-    }
-    read_fields(&bytes[1..], separator, count)
+    rest.is_empty().then_some(row)
 }

@@ -6,211 +6,174 @@
 ghost use Rattle.std.specs.Prelude.{◌≡◌, ◌≤◌, length, IfOk};
 ghost use Rattle.io.specs.Counts.{IsPrefixLen};
 
+use arrayvec::ArrayVec;
 use liivokarp::Reply;
-use printing::{push, push_field, push_lines, push_trailer};
+use report::Report;
+use std::io::Write;
 use std::rt::Files;
-use std::{fs, io};
+use std::{array, fs, io};
 
 // What a buffer is filled with. No candidate has this number.
 const MARK: u32 = 4294967295;
 
-fn marks(chain: &[u32]) -> u64 {
-    let mut count = 0u64;
-    let mut i = 0;
-    while i < chain.len() {
-        if chain[i] == MARK {
-            count += 1;
-        }
-        i += 1;
-    }
-    count
+// A sheet that is written here.
+type Text = ArrayVec<u8, 65537>;
+
+fn print_reply(rt: &impl Print, name: &str, reply: Reply) -> io::Result<()> {
+    println!(rt; "{name}: {reply}")
 }
 
-fn print_reply(rt: &impl Print, name: &[u8], reply: Reply) -> io::Result<()> {
-    let mut out = [0u8; 200];
-    let mut end = push(&mut out, 0, name);
-    end = push(&mut out, end, b": ");
-    end = report::push_reply(&mut out, end, reply);
-    rt.write_all(&out[..end])
+fn print_report(rt: &impl Print, name: &str, bytes: &[u8]) -> io::Result<()> {
+    let mut report = Report::new();
+    report::write_report(&mut report, bytes)?;
+    println!(rt; "{name}:")?;
+    rt.write_all(report.as_slice())
 }
 
-fn print_kept(rt: &impl Print, count: u64) -> io::Result<()> {
-    let mut out = [0u8; 200];
-    let mut end = push(&mut out, 0, b"  as they were:");
-    end = push_field(&mut out, end, count);
-    end = push(&mut out, end, b"\n");
-    rt.write_all(&out[..end])
-}
-
-fn print_report(rt: &impl Print, name: &[u8], bytes: &[u8]) -> io::Result<()> {
-    let mut out = report::report_room();
-    let mut end = push(&mut out, 0, name);
-    end = push(&mut out, end, b":\n");
-    end = report::push_report(&mut out, end, bytes);
-    rt.write_all(&out[..end])
-}
-
-fn assemble_into(rt: &impl Print, name: &[u8], bytes: &[u8], chain: &mut [u32]) -> io::Result<()> {
+fn assemble_into(rt: &impl Print, name: &str, bytes: &[u8], chain: &mut [u32]) -> io::Result<()> {
     let reply = liivokarp::lk_assemble(bytes, chain);
     print_reply(rt, name, reply)?;
-    print_kept(rt, marks(chain))
+    let kept = chain.iter().filter(|number| **number == MARK).count();
+    println!(rt; "  as they were: {kept}")
 }
 
-fn assemble(rt: &impl Print, name: &[u8], bytes: &[u8]) -> io::Result<()> {
+fn assemble(rt: &impl Print, name: &str, bytes: &[u8]) -> io::Result<()> {
     let mut chain = [MARK; 1026];
     assemble_into(rt, name, bytes, &mut chain)
 }
 
-fn score(rt: &impl Print, name: &[u8], bytes: &[u8], chain: &[u32]) -> io::Result<()> {
+fn score(rt: &impl Print, name: &str, bytes: &[u8], chain: &[u32]) -> io::Result<()> {
     print_reply(rt, name, liivokarp::lk_score_chain(bytes, chain))
 }
 
-fn push_length(out: &mut [u8], at: usize, bases: u64) -> usize
-    requires { at ≤ length out.old }
-    ensures { IsPrefixLen result out.new }
-{
-    let mut end = push(out, at, b"L");
-    end = push_field(out, end, bases);
-    push(out, end, b"\n")
+// No evidence, and one rule, from BEGIN to END.
+fn empty(rt: &impl Print, name: &str, bases: u32, least: u32) -> io::Result<()> {
+    let mut text = Text::new();
+    writeln!(text, "L {bases}")?;
+    let r = text.len();
+    writeln!(text, "R 0 1 {least} 4000000 3 0 0 0 0")?;
+    let q = text.len();
+    writeln!(text, "T {r} {r} {q} {q} {q}")?;
+    print_report(rt, name, text.as_slice())
 }
 
-// No evidence, and one rule, from BEGIN to END.
-fn empty(rt: &impl Print, name: &[u8], bases: u64, least: u64) -> io::Result<()> {
-    let mut out = report::sheet_room();
-    let r = push_length(&mut out, 0, bases);
-    let mut q = push(&mut out, r, b"R 0 1");
-    q = push_field(&mut out, q, least);
-    q = push(&mut out, q, b" 4000000 3 0 0 0 0\n");
-    let size = push_trailer(&mut out, q, r, r, q, q, q);
-    print_report(rt, name, &out[..size])
+// F lines from position 2 on.
+fn write_features(text: &mut Text, count: u32, score: i64) -> io::Result<()> {
+    for i in 0..count {
+        writeln!(text, "F 2 {} {score}", i as u64 + 2)?;
+    }
+    Ok(())
 }
 
 // One way to END, past all features.
-fn past(rt: &impl Print, name: &[u8], count: u32) -> io::Result<()> {
-    let mut out = report::sheet_room();
-    let r = push_length(&mut out, 0, 4000000);
-    let f = push(&mut out, r, b"R 0 1 0 4000000 3 0 0 0 0\n");
-    let s = push_lines(&mut out, f, b"F 2 ", 2, count, b" 0\n");
-    let size = push_trailer(&mut out, s, r, r, f, f, s);
-    assemble(rt, name, &out[..size])
+fn past(rt: &impl Print, name: &str, count: u32) -> io::Result<()> {
+    let mut text = Text::new();
+    writeln!(text, "L 4000000")?;
+    let r = text.len();
+    writeln!(text, "R 0 1 0 4000000 3 0 0 0 0")?;
+    let f = text.len();
+    write_features(&mut text, count, 0)?;
+    let s = text.len();
+    writeln!(text, "T {r} {r} {f} {f} {s}")?;
+    assemble(rt, name, text.as_slice())
 }
 
 // One way to END, through all features.
-fn forced(rt: &impl Print, name: &[u8], count: u32) -> io::Result<()> {
-    let mut out = report::sheet_room();
-    let r = push_length(&mut out, 0, count as u64 + 2);
-    let f = push(
-        &mut out,
-        r,
-        b"R 0 2 1 1 3 0 0 0 0\nR 2 1 1 1 3 0 0 0 0\nR 2 2 1 1 3 0 0 0 0\n",
-    );
-    let s = push_lines(&mut out, f, b"F 2 ", 2, count, b" -10000000\n");
-    let size = push_trailer(&mut out, s, r, r, f, f, s);
-    assemble(rt, name, &out[..size])
+fn forced(rt: &impl Print, name: &str, count: u32) -> io::Result<()> {
+    let mut text = Text::new();
+    writeln!(text, "L {}", count as u64 + 2)?;
+    let r = text.len();
+    writeln!(text, "R 0 2 1 1 3 0 0 0 0")?;
+    writeln!(text, "R 2 1 1 1 3 0 0 0 0")?;
+    writeln!(text, "R 2 2 1 1 3 0 0 0 0")?;
+    let f = text.len();
+    write_features(&mut text, count, -10000000)?;
+    let s = text.len();
+    writeln!(text, "T {r} {r} {f} {f} {s}")?;
+    assemble(rt, name, text.as_slice())
 }
 
 // Segments of two bases, one from each of the first `count` positions.
-fn push_spans(out: &mut [u8], at: usize, count: u32) -> usize
-    requires { at ≤ length out.old }
-    ensures { IsPrefixLen result out.new }
-{
-    let mut end = at;
-    let mut i = 0u32;
-    while i < count {
-        end = push(out, end, b"S 0");
-        end = push_field(out, end, i as u64 + 1);
-        end = push_field(out, end, i as u64 + 2);
-        end = push(out, end, b" -10000000\n");
-        i += 1;
+fn write_spans(text: &mut Text, count: u32) -> io::Result<()> {
+    for i in 0..count {
+        let start = i as u64 + 1;
+        writeln!(text, "S 0 {start} {} -10000000", start + 1)?;
     }
-    end
+    Ok(())
 }
 
 // Two ways to END: at once, for a penalty of 7, or through all features, by `count` steps that have a span each.
-fn push_spanned(out: &mut [u8; 65537], count: u32) -> usize
+fn write_spanned(text: &mut Text, count: u32) -> io::Result<()>
     requires { 1 ≤ count }
-    ensures { IsPrefixLen result out.new }
 {
-    let p = push_length(out, 0, count as u64 + 1);
-    let r = push(out, p, b"P 1 0 7\n");
-    let q = push(
-        out,
-        r,
-        b"R 0 1 0 4000000 3 0 0 0 1\nR 0 2 1 1 3 0 0 0 0\nR 2 1 1 1 3 0 0 0 0\nR 2 2 1 1 3 0 0 0 0\n",
-    );
-    let f = push(out, q, b"Q 0 2 0 1 3 3\nQ 2 1 0 1 3 3\nQ 2 2 0 1 3 3\n");
-    let s = push_lines(out, f, b"F 2 ", 2, count - 1, b" 0\n");
-    let end = push_spans(out, s, count);
-    push_trailer(out, end, p, r, q, f, s)
+    writeln!(text, "L {}", count as u64 + 1)?;
+    let p = text.len();
+    writeln!(text, "P 1 0 7")?;
+    let r = text.len();
+    writeln!(text, "R 0 1 0 4000000 3 0 0 0 1")?;
+    writeln!(text, "R 0 2 1 1 3 0 0 0 0")?;
+    writeln!(text, "R 2 1 1 1 3 0 0 0 0")?;
+    writeln!(text, "R 2 2 1 1 3 0 0 0 0")?;
+    let q = text.len();
+    writeln!(text, "Q 0 2 0 1 3 3")?;
+    writeln!(text, "Q 2 1 0 1 3 3")?;
+    writeln!(text, "Q 2 2 0 1 3 3")?;
+    let f = text.len();
+    write_features(text, count - 1, 0)?;
+    let s = text.len();
+    write_spans(text, count)?;
+    writeln!(text, "T {p} {r} {q} {f} {s}")
 }
 
-fn candidates() -> [u32; 1026] {
-    let mut chain = [0u32; 1026];
-    let mut i = 0;
-    while i < 1026 {
-        chain[i] = i as u32;
-        i += 1;
-    }
-    chain
-}
-
-fn score_all(rt: &impl Print, name: &[u8], bytes: &[u8], count: usize) -> io::Result<()>
+// Every candidate of a sheet with so many steps.
+fn score_all(rt: &impl Print, name: &str, bytes: &[u8], count: usize) -> io::Result<()>
     requires { count ≤ 1026 }
 {
-    let chain = candidates();
+    let chain: [u32; 1026] = array::from_fn(|i| i as u32);
     score(rt, name, bytes, &chain[..count])
 }
 
-fn spanned(rt: &impl Print, best: &[u8], worst: &[u8], count: u32) -> io::Result<()>
+fn spanned(rt: &impl Print, best: &str, worst: &str, count: u32) -> io::Result<()>
     requires { (1 ≤ count) × (count ≤ 1024) }
 {
-    let mut out = report::sheet_room();
-    let size = push_spanned(&mut out, count);
-    assemble(rt, best, &out[..size])?;
-    score_all(rt, worst, &out[..size], count as usize + 1)
+    let mut text = Text::new();
+    write_spanned(&mut text, count)?;
+    assemble(rt, best, text.as_slice())?;
+    score_all(rt, worst, text.as_slice(), count as usize + 1)
 }
 
 fn bench_values(rt: &impl Print) -> io::Result<()> {
-    empty(rt, b"length 1, distance 0 or more", 1, 0)?;
-    empty(rt, b"length 1, distance 1 or more", 1, 1)?;
-    forced(rt, b"300 features", 300)?;
-    spanned(rt, b"215 spans, the best", b"215 spans, all of them", 215)?;
-    spanned(
-        rt,
-        b"1024 spans, the best",
-        b"1024 spans, all of them",
-        1024,
-    )?;
-    assemble(rt, b"0 bytes", b"")?;
-    past(rt, b"1024 F lines", 1024)?;
-    past(rt, b"1025 F lines", 1025)?;
-    empty(rt, b"length 4000000", 4000000, 0)?;
-    empty(rt, b"length 4000001", 4000001, 0)?;
+    empty(rt, "length 1, distance 0 or more", 1, 0)?;
+    empty(rt, "length 1, distance 1 or more", 1, 1)?;
+    forced(rt, "300 features", 300)?;
+    spanned(rt, "215 spans, the best", "215 spans, all of them", 215)?;
+    spanned(rt, "1024 spans, the best", "1024 spans, all of them", 1024)?;
+    assemble(rt, "0 bytes", b"")?;
+    past(rt, "1024 F lines", 1024)?;
+    past(rt, "1025 F lines", 1025)?;
+    empty(rt, "length 4000000", 4000000, 0)?;
+    empty(rt, "length 4000001", 4000001, 0)?;
     Ok(())
 }
 
 // What no bench value above is refused with, before any chain is looked for.
 fn sheets_at_fault(rt: &impl Print) -> io::Result<()> {
     let long = report::sheet_room();
-    assemble(rt, b"65537 bytes", &long)?;
-    assemble(rt, b"no trailer", b"L 1\n")?;
-    assemble(rt, b"a field missing", b"L 9\nF 2 1\nT 4 4 4 4 10\n")?;
+    assemble(rt, "65537 bytes", &long)?;
+    assemble(rt, "no trailer", b"L 1\n")?;
+    assemble(rt, "a field missing", b"L 9\nF 2 1\nT 4 4 4 4 10\n")?;
+    assemble(rt, "out of order", b"L 9\nF 2 2 0\nF 2 1 0\nT 4 4 4 4 20\n")?;
     assemble(
         rt,
-        b"out of order",
-        b"L 9\nF 2 2 0\nF 2 1 0\nT 4 4 4 4 20\n",
-    )?;
-    assemble(
-        rt,
-        b"Q without its rule",
+        "Q without its rule",
         b"L 9\nQ 2 3 0 1 3 0\nT 4 4 4 18 18\n",
     )?;
     assemble(
         rt,
-        b"function without a point",
+        "function without a point",
         b"L 9\nR 0 1 0 9 3 0 0 0 1\nT 4 4 24 24 24\n",
     )?;
-    score(rt, b"no trailer, and a chain", b"L 1\n", &[0, 1])?;
+    score(rt, "no trailer, and a chain", b"L 1\n", &[0, 1])?;
     Ok(())
 }
 
@@ -218,42 +181,42 @@ fn sheets_at_fault(rt: &impl Print) -> io::Result<()> {
 fn no_valid_chain(rt: &impl Print) -> io::Result<()> {
     let bytes = b"L 1\nT 4 4 4 4 4\n";
     let mut one = [MARK; 1];
-    assemble_into(rt, b"no rule, room for 1", bytes, &mut one)?;
+    assemble_into(rt, "no rule, room for 1", bytes, &mut one)?;
     let mut two = [MARK; 2];
-    assemble_into(rt, b"no rule, room for 2", bytes, &mut two)?;
-    score(rt, b"no rule, chain 0 1", bytes, &[0, 1])?;
-    score(rt, b"no rule, chain 0", bytes, &[0])?;
+    assemble_into(rt, "no rule, room for 2", bytes, &mut two)?;
+    score(rt, "no rule, chain 0 1", bytes, &[0, 1])?;
+    score(rt, "no rule, chain 0", bytes, &[0])?;
     Ok(())
 }
 
 fn rooms(rt: &impl Print, one: &[u8]) -> io::Result<()> {
     let mut five = [MARK; 5];
-    assemble_into(rt, b"sheet one, room for 5", one, &mut five)?;
+    assemble_into(rt, "sheet one, room for 5", one, &mut five)?;
     let mut six = [MARK; 6];
-    assemble_into(rt, b"sheet one, room for 6", one, &mut six)?;
+    assemble_into(rt, "sheet one, room for 6", one, &mut six)?;
     let mut seven = [MARK; 7];
-    assemble_into(rt, b"sheet one, room for 7", one, &mut seven)?;
+    assemble_into(rt, "sheet one, room for 7", one, &mut seven)?;
     Ok(())
 }
 
 fn lent_chains(rt: &impl Print, one: &[u8]) -> io::Result<()> {
-    score(rt, b"sheet one, chain 0 1 3 5", one, &[0, 1, 3, 5])?;
-    score(rt, b"sheet one, chain 0 2 3 5", one, &[0, 2, 3, 5])?;
-    score(rt, b"sheet one, chain 0 5", one, &[0, 5])?;
-    score(rt, b"sheet one, chain 0 1 4 5", one, &[0, 1, 4, 5])?;
-    score(rt, b"sheet one, chain 0 3 5", one, &[0, 3, 5])?;
-    score(rt, b"sheet one, chain 0 1 3 4 5", one, &[0, 1, 3, 4, 5])?;
+    score(rt, "sheet one, chain 0 1 3 5", one, &[0, 1, 3, 5])?;
+    score(rt, "sheet one, chain 0 2 3 5", one, &[0, 2, 3, 5])?;
+    score(rt, "sheet one, chain 0 5", one, &[0, 5])?;
+    score(rt, "sheet one, chain 0 1 4 5", one, &[0, 1, 4, 5])?;
+    score(rt, "sheet one, chain 0 3 5", one, &[0, 3, 5])?;
+    score(rt, "sheet one, chain 0 1 3 4 5", one, &[0, 1, 3, 4, 5])?;
     Ok(())
 }
 
 fn lent_lists(rt: &impl Print, one: &[u8]) -> io::Result<()> {
-    score(rt, b"sheet one, nothing", one, &[])?;
-    score(rt, b"sheet one, 0", one, &[0])?;
-    score(rt, b"sheet one, 1 3 5", one, &[1, 3, 5])?;
-    score(rt, b"sheet one, 0 1 3", one, &[0, 1, 3])?;
-    score(rt, b"sheet one, 0 1 1 5", one, &[0, 1, 1, 5])?;
-    score(rt, b"sheet one, 0 4 1 5", one, &[0, 4, 1, 5])?;
-    score(rt, b"sheet one, 0 1 3 5 6", one, &[0, 1, 3, 5, 6])?;
+    score(rt, "sheet one, nothing", one, &[])?;
+    score(rt, "sheet one, 0", one, &[0])?;
+    score(rt, "sheet one, 1 3 5", one, &[1, 3, 5])?;
+    score(rt, "sheet one, 0 1 3", one, &[0, 1, 3])?;
+    score(rt, "sheet one, 0 1 1 5", one, &[0, 1, 1, 5])?;
+    score(rt, "sheet one, 0 4 1 5", one, &[0, 4, 1, 5])?;
+    score(rt, "sheet one, 0 1 3 5 6", one, &[0, 1, 3, 5, 6])?;
     Ok(())
 }
 
@@ -277,7 +240,7 @@ fn sheet_one(rt: &(impl Print + Files)) -> io::Result<()> {
 fn sheet(rt: &(impl Print + Files), name: &str) -> io::Result<()> {
     let mut bytes = report::sheet_room();
     let size = read_file(rt, name, &mut bytes)?;
-    print_report(rt, name.as_bytes(), &bytes[..size])
+    print_report(rt, name, &bytes[..size])
 }
 
 fn sheets(rt: &(impl Print + Files)) -> io::Result<()> {

@@ -1,19 +1,15 @@
--- The quotient rounded towards minus infinity: its size, its value where the division comes out even, and how the machine's quotient,
--- which is rounded towards zero, gives it.
-use mathlib.Core.Path.{◌≡◌, refl, sym, ap, ◌∙◌}
-use mathlib.Core.Bool.{true, false, true≢false}
-use Prim.Native.Nat.{ℕ, zero, suc, ◌+◌, ◌-◌, ◌*◌, ◌/◌, ◌≤◌, ◌<◌, zero-le}
-use native.Mathlib.Nat.{div-le_self, div-le_of_le-mul, mul_comm, div-lt_iff_lt-mul, lt_of_le_of_lt, zero-div, mul-div_cancel, div-eq_of_lt-le, suc-mul, mul-le-mul_right}
+-- The quotient rounded towards minus infinity: its size, its value where the division comes out even, and what a part of a number can be.
+use mathlib.Core.Path.{◌≡◌, refl, ap, ◌∙◌}
+use mathlib.Core.Bool.{true}
+use Prim.Native.Nat.{ℕ, zero, suc, ◌+◌, ◌-◌, ◌*◌, ◌/◌, ◌≤◌, ◌<◌}
+use native.Mathlib.Nat.{div-le_self, div-le_of_le-mul, mul_comm, div-lt_iff_lt-mul, zero-div, mul-div_cancel, div-eq_of_lt-le, suc-mul, mul-le-mul_right}
 use native.Mathlib.Numerals.{add-one}
 use native.Mathlib.Omega.{arith}
 use borrow.Author.Tests.{le-leb}
-use lib.Dec.{leb, leb→le}
-use lib.IntN.{ℤ, pos, negsuc, neg_ℤ, nat_abs, ◌-ℤ◌, ◌*ℤ◌, *ℤ-zero}
-use lib.Signed.{le_z, quot_z, ◌≤ℤ◌}
-use mir.Syntax.{w64}
-use mir.Val.{SFits, of_z}
+use lib.Dec.{leb}
+use lib.IntN.{ℤ, pos, negsuc, neg_ℤ, nat_abs, ◌*ℤ◌, *ℤ-zero}
+use lib.Signed.{le_z}
 use Rattle.whole.specs.Whole.{floor_of}
-use Rattle.whole.proofs.Linear.{dif_law, eq_of}
 use Rattle.whole.proofs.Comparisons.{le_through}
 
 pub abs_floor : (z : ℤ) (m : ℕ) → nat_abs (floor_of z m) ≤ nat_abs z
@@ -37,28 +33,7 @@ pub floor_cancel : (z : ℤ) (n : ℕ) → 0 < n → floor_of (z *ℤ pos n) n �
 floor_cancel (pos a) n h = ap pos (mul-div_cancel a h)
 floor_cancel (negsuc a) n h = negative_even a n h
 
--- ---- the machine's quotient by m, at least 1
--- m is positive, and the quotient of a number that is not negative fits
-divides : (a : ℕ) (m : ℤ) → pos 1 ≤ℤ m → SFits w64 (pos a) → SFits w64 m → (0 < of_z w64 m) × SFits w64 (quot_z (pos a) m)
-divides a (pos m) h f g =
-    let k = leb→le 1 m h.le in
-    let l = div-le_self a m in
-    let n = f.sfits in
-    (omega arith, record { sfits = omega arith })
-divides a (negsuc m) h f g = absurd h.le
-
-quotient_is : (a : ℕ) (m : ℤ) → pos 1 ≤ℤ m → quot_z (pos a) m ≡ pos (a / nat_abs m)
-quotient_is a (pos m) h = refl
-quotient_is a (negsuc m) h = absurd h.le
-
--- -1 - z turns z over
-turned_up : (n : ℕ) → negsuc 0 -ℤ negsuc n ≡ pos n
-turned_up n = eq_of (negsuc 0 -ℤ negsuc n) (pos n) (omega (arith, dif_law (negsuc 0) (negsuc n)))
-
-turned_down : (n : ℕ) → negsuc 0 -ℤ pos n ≡ negsuc n
-turned_down n = eq_of (negsuc 0 -ℤ pos n) (negsuc n) (omega (arith, dif_law (negsuc 0) (pos n)))
-
--- a part of z, o of n, is above neither z nor 0
+-- ---- a part of z, o of n, is above neither z nor 0
 floor_low : (k n : ℕ) → le_z (floor_of (neg_ℤ (pos k)) n) (pos 0) ≡ true
 floor_low zero n = ap (λ (m : ℕ). leb m 0) (zero-div n)
 floor_low (suc k) n = refl
@@ -69,32 +44,3 @@ floor_share (pos a) value o n h k l = le_through (pos (a * o / n)) (pos a) value
     low : (a o n : ℕ) → o ≤ n → a * o ≤ n * a
     low a o n h = omega (arith, mul-le-mul_right a h, mul_comm a o)
 floor_share (negsuc a) value o n h k l = le_through (floor_of (neg_ℤ (pos (suc a * o))) n) (pos 0) value (floor_low (suc a * o) n) k
-
--- what the code meets where a is not negative
-pub record Straight (a m : ℤ) : Type 0 where
-  pub divides_well : (0 < of_z w64 m) × SFits w64 (quot_z a m)
-  pub is : quot_z a m ≡ floor_of a (nat_abs m)
-
-pub straight : (a m : ℤ) → le_z (pos 0) a ≡ true → pos 1 ≤ℤ m → SFits w64 a → SFits w64 m → Straight a m
-straight (pos a) m t h f g = record { divides_well = divides a m h f g; is = quotient_is a m h }
-straight (negsuc a) m t h f g = absurd (true≢false (sym t))
-
--- and where it is negative
-pub record Turned (a m : ℤ) : Type 0 where
-  pub turns : SFits w64 (negsuc 0 -ℤ a)
-  pub divides_well : (0 < of_z w64 m) × SFits w64 (quot_z (negsuc 0 -ℤ a) m)
-  pub turns_back : SFits w64 (negsuc 0 -ℤ quot_z (negsuc 0 -ℤ a) m)
-  pub is : negsuc 0 -ℤ quot_z (negsuc 0 -ℤ a) m ≡ floor_of a (nat_abs m)
-
-pub turned : (a m : ℤ) → le_z (pos 0) a ≡ false → pos 1 ≤ℤ m → SFits w64 a → SFits w64 m → Turned a m
-turned (pos a) m t h f g = absurd (true≢false (sym (le-leb 0 a zero-le) ∙ t))
-turned (negsuc a) m t h f g =
-    let k = f.sfits in
-    let e = turned_up a in
-    let p : SFits w64 (pos a) = record { sfits = k } in
-    record {
-      turns = rw e p;
-      divides_well = rw e (divides a m h p g);
-      turns_back = rw (e, quotient_is a m h, turned_down) (record { sfits = lt_of_le_of_lt (div-le_self a (nat_abs m)) k });
-      is = rw (e, quotient_is a m h, turned_down);
-    }

@@ -1,33 +1,31 @@
-use Prim.Native.Nat.{◌<◌}
-use native.Mathlib.Omega.{arith}
-use Rattle.gaze.proofs.Entries.{not_empty, chain_first, chain_last, chain_of}
-use Rattle.chains.proofs.Pairs.{none_yet, one_pair_more, rises_at}
+-- `is_chain` is right because its tests are the parts of a chain, each by place.
+use Rattle.std.proofs.Common.{arith, sym, ◌∙◌}
+use Rattle.std.proofs.lemmas.Bool.Decides.{nat_tests}
+use Rattle.gaze.proofs.Entries.{not_empty, chain_first, chain_last, chain_rises, chain_of}
+use Rattle.whole.proofs.Comparisons.{test_true}
 use Rattle.chains.proofs.is_chain.Goals as goal
+use Rattle.chains.proofs.is_chain.Goals.{then-first-eq0, else-first-eq0}
 
-pub returns-then-n-eq0 : goal.returns-then-n-eq0
-returns-then-n-eq0 c = record { sound = λ x. absurd x; complete = λ u p. omega (arith, not_empty _ _ p) }
+pub returns-in_default-2-clause-complete : goal.returns-in_default-2-clause-complete
+returns-in_default-2-clause-complete c = λ t p. omega (arith, not_empty _ _ p, c.in_default.ensures.item.3)
 
-pub returns-then-c-ne0 : goal.returns-then-c-ne0
-returns-then-c-ne0 c = record { sound = λ x. absurd x; complete = λ u p. c.if-c-ne0.true (chain_first _ _ p) }
+pub returns-then-last-e-clause-sound : goal.returns-then-last-e-clause-sound
+returns-then-last-e-clause-sound c = λ t.
+    let f = c.in-Some-Some.ensures.item.3 in
+    let l = c.in-Some-Some.ensures'.item.3 in
+    elim c.if-first-eq0.branch [
+      | then-first-eq0 w ↦ chain_of _ _ f.0 (sym (f.1 0) ∙ w.if-first-eq0.true) (grind (arith, nat_tests, l.1 0)) (c.rises.ensures.0 (test_true _ t))
+      | else-first-eq0 w ↦ grind (arith, nat_tests)
+    ]
 
-pub returns-then-z-e : goal.returns-then-z-e
-returns-then-z-e c = record { sound = λ x. absurd x; complete = λ u p. c.if-z-e.true (chain_last _ _ p) }
+pub returns-then-last-e-clause-complete : goal.returns-then-last-e-clause-complete
+returns-then-last-e-clause-complete c = λ t p. let a = c.rises.ensures.1 (chain_rises _ _ p) in grind (arith, nat_tests, a)
 
-pub loop-i-init : goal.loop-i-init
-loop-i-init c = (omega arith, omega arith, none_yet (λ a b. a < b) c.args.c.now)
-
-pub returns-then-c-i : goal.returns-then-c-i
-returns-then-c-i c =
-    let g = c.loop-i.invariant in
-    record { sound = λ x. absurd x; complete = λ u p. omega (arith, rises_at _ _ p c.loop-i.i g.0 c.loop-i-test.true) }
-
-pub loop-i-preserved : goal.loop-i-preserved
-loop-i-preserved c =
-    let g = c.loop-i.invariant in
-    (omega arith, omega arith, one_pair_more (λ a b. a < b) c.args.c.now c.loop-i.i g.0 g.2 c.if-c-i.false)
-
-pub returns : goal.returns
-returns c =
-    let g = c.loop-i.invariant in
-    let o = c.loop-i-test.false in
-    record { sound = λ u. chain_of _ _ (omega arith) c.if-c-ne0.false c.if-z-e.false (λ k h. g.2 k (omega arith)); complete = λ x. absurd x }
+pub returns-else-last-e-clause-complete : goal.returns-else-last-e-clause-complete
+returns-else-last-e-clause-complete c = λ t p.
+    let f = c.in-Some-Some.ensures.item.3 in
+    let l = c.in-Some-Some.ensures'.item.3 in
+    elim c.if-first-eq0.branch [
+      | then-first-eq0 w ↦ grind (arith, nat_tests, chain_last _ _ p, l.1 0)
+      | else-first-eq0 w ↦ w.if-first-eq0.false (f.1 0 ∙ chain_first _ _ p)
+    ]

@@ -1,10 +1,9 @@
--- `trace` is right because it writes each candidate before the one that came from it. The invariant: what is written from p on, with the way from j
--- before it, is the chain, and the rest of the buffer is as it was.
-use Rattle.chains.proofs.Traces.{Writing}
+-- `trace` is right because each turn writes one candidate and goes on to its source: what is written and the way ahead are the way back from the last.
+use Rattle.chains.proofs.Traces.{Walking}
 use Rattle.chains.proofs.trace.Given as goal
 
-abbrev pub invariant-loop-j : goal.invariant-loop-j
-invariant-loop-j l = Writing l.e l.from l.initial.chain l.chain l.n l.p l.j
+abbrev pub invariant-loop-place : goal.invariant-loop-place
+invariant-loop-place l = Walking l.entries l.last l.initial.chain l.chain l.count l.place
 
-abbrev pub decreases-loop-j : goal.decreases-loop-j
-decreases-loop-j l = l.j
+abbrev pub decreases-loop-place : goal.decreases-loop-place
+decreases-loop-place l = l.place

@@ -1,57 +1,23 @@
--- `best_chain` is right because the search fills the table of the sheet's candidates, and a filled table answers for the last of them.
-use native.Mathlib.Omega.{arith}
+-- `best_chain` is right because all entries are filled in by the steps of the sheet, and the last one is END's.
+use Rattle.std.proofs.Common.{◌≡◌, ◌-◌, arith, length}
+use Rattle.gaze.specs.Sheet.{end_number}
 use Rattle.gaze.specs.Step.{steps}
-use Rattle.engine.proofs.Preparing.{ready_some, ready_few, ready_rows, ready_end}
-use Rattle.engine.proofs.Summing.{ready_places, ready_rates, ready_filling, ready_sums}
+use Rattle.engine.proofs.Searching.{finished}
 use Rattle.engine.proofs.best_chain.Goals as goal
 
-pub fill_table-requires : goal.fill_table-requires
-fill_table-requires c =
-    let r = c.requires.ready.ready in
-    record { sound = ready_rates r; places = ready_places r; filling = ready_filling r (omega arith) (omega arith) c.empty_table-sums.ensures }
+pub answer-requires-clause-finished : goal.answer-requires-clause-finished
+answer-requires-clause-finished c =
+    let here = c.of-prepared.ensures in
+    rw (c.as_slice.ensures.value) (finished here.ranged (rw here.value at c.search-entries.ensures.all) (rw here.value at c.search-entries.ensures.searched))
 
-pub search-requires : goal.search-requires
-search-requires c =
-    let p = c.requires.ready in
-    let few = ready_few p.ready in
-    let rows = ready_rows p.ready in
-    record {
-      held = record { sheet = p.sheet; model = ready_sums p.ready (omega arith) (omega arith) c.fill_table.ensures; all = p.ready.all };
-      scratch = record {
-        bounds_long = omega arith;
-        starts_room = omega (arith, rows);
-        ends_room = omega (arith, rows);
-        scores_room = omega (arith, rows);
-        rates_room = omega (arith, rows);
-      };
-      places = record {
-        legals_long = omega (arith, few);
-        gains_long = omega (arith, few);
-        reach_long = omega (arith, few);
-        value_long = omega (arith, few);
-        from_long = omega (arith, few);
-      };
-    }
-
-pub answer-requires : goal.answer-requires
-answer-requires c =
-    let r = c.requires.ready.ready in
-    let few = ready_few r in
-    record {
-      finished = record {
-        model = steps c.requires.ready.sheet;
-        searched = c.search.ensures.searched c.requires.ready.sheet (ready_sums r (omega arith) (omega arith) c.fill_table.ensures) r.all;
-        some = ready_some r;
-        few = few;
-        reach_long = omega (arith, few);
-        value_long = omega (arith, few);
-        from_long = omega (arith, few);
-      };
-      room = c.requires.room;
-    }
+pub answer-requires-clause-room : goal.answer-requires-clause-room
+answer-requires-clause-room c =
+    rw (c.as_slice.ensures.value, c.search-entries.ensures.all, c.of-prepared.ensures.value) c.requires
 
 pub returns : goal.returns
 returns c =
-    λ sheet r.
-    rw (ready_end r) at
-    (c.answer.ensures (steps sheet) (c.search.ensures.searched sheet (ready_sums r (omega arith) (omega arith) c.fill_table.ensures) r.all))
+    let here = c.of-prepared.ensures in
+    let all = rw here.value at c.search-entries.ensures.all in
+    let last : length c.search-entries.result.items - 1 ≡ end_number c.args.sheet.now = omega arith in
+    rw (c.as_slice.ensures.value, last) at
+    (c.answer.ensures (steps c.args.sheet.now) (rw c.as_slice.ensures.value (rw here.value at c.search-entries.ensures.searched)))

@@ -1,4 +1,4 @@
--- What stands in the front of the buffer is what the reader gave.
+-- `read_full` is right because each read goes on where the last one ended. The invariant: what stands in the front of the buffer is what the reader gave.
 use Rattle.std.proofs.Common.{length, ◌-◌, ◌≡◌, ◌≤◌, take}
 use Rattle.std.specs.Io.KnownBytes.{Consumes}
 use Rattle.report.proofs.read_full.Given as goal

@@ -1,4 +1,4 @@
--- A read that a signal interrupts takes nothing: the invariant says that the reader has what it had.
+-- `read_some` is right because a read that a signal interrupts takes nothing. The invariant: the reader has what it had.
 use Rattle.std.proofs.Common.{◌≡◌, length}
 use Rattle.std.specs.Io.KnownBytes.{Keeps}
 use Rattle.report.proofs.read_some.Given as goal

@@ -1,47 +1,36 @@
-use mathlib.Core.Path.{◌≡◌, refl, ap, ◌∙◌}
-use Prim.Native.Nat.{ℕ}
-use native.Mathlib.Omega.{arith}
-use lib.ListN.{get_or}
-use lib.IntN.{pos}
-use mir.Syntax.{w64}
-use mir.Val.{SFits}
-use mir.Facts.{to_z-of_z}
-use Rattle.gaze.specs.SegmentScore.{enters, share, largest_share}
-use Rattle.gaze.proofs.ListLaws.{listed_none, listed_more}
-use Rattle.rows.specs.Rows.{row, rows}
-use Rattle.rows.proofs.Picking.{pick_none, pick_step}
-use borrow.Author.Rules.{rules}
+use Rattle.std.proofs.Common.{◌≡◌, false, sym, ◌∙◌, arith, take, take_all}
+use Rattle.whole.proofs.Bits.{back, small_back}
+use Rattle.gaze.specs.SegmentScore.{share}
+use Rattle.rows.specs.Maximum.{can_win}
+use Rattle.rows.proofs.Maxima.{maximum_of, one_more, no_more, largest_is}
+use Rattle.rows.proofs.Shares.{share_beaten}
 use Rattle.rows.proofs.best_share.Goals as goal
+use Rattle.rows.proofs.best_share.Goals.{then-can_win, else-can_win}
 
-pub loop-i-init : goal.loop-i-init
-loop-i-init c = (search rules, (search rules, λ kind. pick_none _ _ (listed_none _ _ _ refl)))
-
-pub take_share-largest-requires : goal.take_share-largest-requires
-take_share-largest-requires c =
-    let i = c.loop-i.i in
-    let f : SFits w64 (get_or c.args.score.now i (pos 0)) = search rules in
-    record { good = rw (to_z-of_z f) (c.requires.sound.each i (omega arith) (omega arith)); ordered = c.requires.ordered }
-
-pub loop-i-preserved : goal.loop-i-preserved
-loop-i-preserved c =
+pub loop-row-preserved : goal.loop-row-preserved
+loop-row-preserved c =
     let a = c.args in
-    let l = c.loop-i in
-    let f : SFits w64 (get_or a.score.now l.i (pos 0)) = search rules in (
-      omega arith,
-      (
-        omega arith,
-        λ kind.
-            pick_step (enters a.a a.b) (share a.a a.b) (row kind a.start.now a.end.now a.score.now l.i)
-            (listed_more _ a.lo l.i (omega arith)) (l.invariant.1.1 kind) (rw (to_z-of_z f) at c.take_share-largest.ensures),
-      ),
-    )
+    let l = c.loop-row in
+    let g = c.row-item.result in
+    let r = rw c.row.view_is at c.row.invariant.good in
+    let score = small_back c.row.inside.segment.score 10000000 c.row.invariant.good.score (omega arith) in
+    elim c.if-can_win.branch [
+      | then-can_win w ↦
+          let more = one_more (share a.a a.b) a.rows.now l.row-index g c.loop-row-test.true c.row-item.is in
+          let s = back w.share.result w.share.type_inv in
+          let t = back w.larger_with.result w.larger_with.type_inv in
+          cc
+      | else-can_win w ↦
+          let n : can_win (maximum_of (share a.a a.b) (take l.row-index a.rows.now)) g.score ≡ false = cc in
+          w.largest-is ∙ (l.invariant ∙ sym (no_more (share a.a a.b) a.rows.now l.row-index g c.loop-row-test.true c.row-item.is g.score (share_beaten a.a a.b g r.ordered) n))
+    ]
 
 pub returns : goal.returns
 returns c =
+    let r = c.unwrap_or in
     let a = c.args in
-    let l = c.loop-i in
-    let f : SFits w64 l.largest.value = search rules in
-    let e : l.i ≡ a.hi = omega arith in
-    λ kind.
-    to_z-of_z f
-    ∙ ((l.invariant.1.1 kind).value_is ∙ ap (λ (n : ℕ). largest_share a.a a.b (rows kind a.start.now a.end.now a.score.now a.lo n)) e)
+    let l = c.loop-row in
+    let all = take_all l.row-index a.rows.now c.loop-row-test.false in
+    let is = largest_is (share a.a a.b) a.a a.b a.rows.now in
+    let b = back r.result r.type_inv in
+    cc

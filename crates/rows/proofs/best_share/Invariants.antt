@@ -1,13 +1,9 @@
--- `best_share` is right because it looks at each row once. The loop's invariant: the maximum is that of the shares of the rows from `lo` up to `i`.
-use Prim.Native.Nat.{ℕ, ◌≤◌, ◌-◌}
-use Rattle.gaze.specs.SegmentScore.{enters, share}
-use Rattle.rows.specs.Rows.{rows}
-use Rattle.rows.proofs.Picking.{Picked}
+-- `best_share` is right because it looks at each row once, and passes over a row only where no share of its score can change the maximum. The invariant:
+-- the maximum is that of the shares of the rows that were looked at.
+use Rattle.std.proofs.Common.{◌≡◌, take}
+use Rattle.gaze.specs.SegmentScore.{share}
+use Rattle.rows.proofs.Maxima.{maximum_of}
 use Rattle.rows.proofs.best_share.Given as goal
 
-abbrev pub invariant-loop-i : goal.invariant-loop-i
-invariant-loop-i l =
-    (l.lo ≤ l.i) × ((l.i ≤ l.hi) × ((kind : ℕ) → Picked (enters l.a l.b) (share l.a l.b) (rows kind l.start l.end l.score l.lo l.i) l.largest.any l.largest.value))
-
-abbrev pub decreases-loop-i : goal.decreases-loop-i
-decreases-loop-i l = l.hi - l.i
+abbrev pub invariant-loop-row : goal.invariant-loop-row
+invariant-loop-row l = l.largest ≡ maximum_of (share l.a l.b) (take l.row-index l.rows)

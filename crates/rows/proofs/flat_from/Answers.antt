@@ -1,34 +1,30 @@
-use native.Mathlib.Omega.{arith}
-use lib.ListN.{get_or}
-use lib.IntN.{pos}
-use mir.Syntax.{w64}
-use mir.Val.{SFits}
-use mir.Facts.{to_z-of_z}
-use Rattle.rows.proofs.Plateaus.{look_none, look_more, look_all}
-use borrow.Author.Rules.{rules}
+use Rattle.std.proofs.Common.{take_all}
+use Rattle.whole.proofs.Bits.{back}
+use Rattle.rows.proofs.Plateaus.{look_none, look_more, look_all, look_small}
 use Rattle.rows.proofs.flat_from.Goals as goal
 
-pub loop-i-init : goal.loop-i-init
-loop-i-init c =
-    let a = c.args in
-    look_none a.start.now a.end.now a.rate.now a.lo a.hi a.x a.to (omega arith) (omega arith)
+pub loop-row-init : goal.loop-row-init
+loop-row-init c = look_none c.args.x c.args.to c.requires
 
-pub edge-next-requires : goal.edge-next-requires
-edge-next-requires c =
-    let l = c.loop-i in
-    record { ahead = l.invariant.after; bounded = (c.requires.sound.each l.i l.invariant.from_lo (omega arith)).bounded }
-
-pub loop-i-preserved : goal.loop-i-preserved
-loop-i-preserved c =
+pub loop-row-preserved : goal.loop-row-preserved
+loop-row-preserved c =
     let a = c.args in
-    let l = c.loop-i in
-    let f : SFits w64 (get_or a.rate.now l.i (pos 0)) = search rules in
-    look_more a.start.now a.end.now a.rate.now a.lo a.hi a.x a.to (omega arith) l.invariant
-    (rw (to_z-of_z f) at c.take_rate-largest.ensures) c.edge-next.ensures
+    let l = c.loop-row in
+    let rate = back c.rate_at.result c.rate_at.type_inv in
+    let largest = back c.larger_with.result c.larger_with.type_inv in
+    look_more a.x a.to a.rows.now l.row-index c.row-item.result c.loop-row-test.true c.row-item.is l.invariant
+    (rw c.row.view_is at c.row.invariant.good.score) (rw c.row.view_is at c.edge.ensures) (cc) c.min-next.ensures
 
-pub returns : goal.returns
-returns c =
+pub returns-clause-flat : goal.returns-clause-flat
+returns-clause-flat c =
     let a = c.args in
-    let l = c.loop-i in
-    let f : SFits w64 l.largest.value = search rules in
-    λ kind. rw (to_z-of_z f) (look_all a.start.now a.end.now a.rate.now a.lo a.hi a.x a.to kind (omega arith) l.invariant)
+    let r = c.unwrap_or in
+    let all = take_all c.loop-row.row-index a.rows.now c.loop-row-test.false in
+    rw (back r.result r.type_inv, r.ensures) (look_all a.x a.to a.rows.now (rw all at c.loop-row.invariant))
+
+pub returns-clause-small : goal.returns-clause-small
+returns-clause-small c =
+    let a = c.args in
+    let r = c.unwrap_or in
+    let all = take_all c.loop-row.row-index a.rows.now c.loop-row-test.false in
+    rw (back r.result r.type_inv, r.ensures) (look_small a.x a.to a.rows.now (rw all at c.loop-row.invariant))

@@ -1,11 +1,8 @@
--- `flat_from` is right because the peak at `x` can change only at an edge of one of the rows. The loop's invariant: the maximum is the peak at `x` of the
--- rows up to `i`, and none of these has an edge between `x` and `next`.
-use Prim.Native.Nat.{◌-◌}
-use Rattle.rows.proofs.Plateaus.{Looking}
+-- `flat_from` is right because the largest rate can change only at an edge of one of the rows. The invariant: `largest` is the maximum of the rates at `x` of
+-- the rows that were looked at, and none of these has an edge between `x` and `next`.
+use Rattle.std.proofs.Common.{take}
+use Rattle.rows.proofs.Plateaus.{Looked}
 use Rattle.rows.proofs.flat_from.Given as goal
 
-abbrev pub invariant-loop-i : goal.invariant-loop-i
-invariant-loop-i l = Looking l.start l.end l.rate l.lo l.hi l.x l.to l.i l.largest.any l.largest.value l.next
-
-abbrev pub decreases-loop-i : goal.decreases-loop-i
-decreases-loop-i l = l.hi - l.i
+abbrev pub invariant-loop-row : goal.invariant-loop-row
+invariant-loop-row l = Looked l.x l.to (take l.row-index l.rows) l.largest l.next

@@ -1,33 +1,46 @@
--- `region_score` is right because the segments of the line's type and phase that also meet its match are the chosen ones.
-use mathlib.Core.Path.{ap, ◌∙◌}
-use native.Mathlib.Omega.{arith}
-use Rattle.whole.proofs.Bits.{back}
-use Rattle.gaze.specs.Columns.{segment_at}
-use Rattle.rows.specs.Rows.{scored}
-use Rattle.segment.proofs.Choosing.{kept_sound, chosen_rows}
+use Rattle.std.proofs.Common.{◌∙◌, sym, arith, pos, ◌≤◌, length}
+use Rattle.gaze.specs.declared.Segment.{Segment}
+use Rattle.gaze.specs.Lists.{keep}
+use Rattle.gaze.specs.SegmentScore.{asked}
+use Rattle.gaze.proofs.ListLaws.{each_at}
+use Rattle.rows.specs.Rows.{Good}
+use Rattle.segment.proofs.Choosing.{kept_few, kept_more, kept_same}
 use Rattle.segment.proofs.region_score.Goals as goal
+use Rattle.segment.proofs.region_score.Goals.{then-asked, else-asked}
 
-pub gather-some-requires-clause-room : goal.gather-some-requires-clause-room
-gather-some-requires-clause-room c =
-    let p = c.requires in
-    record { starts_room = omega (arith, p.few); ends_room = omega (arith, p.few); scores_room = omega (arith, p.few) }
+-- what a place past the end has
+abbrev blank : Segment
+blank = record { kind = 0; start = 0; end = 0; score = pos 0 }
 
-pub score_matching-requires : goal.score_matching-requires
-score_matching-requires c =
-    let p = c.requires in
-    let q = c.gather-some.ensures in
-    record {
-      sound = kept_sound (record { starts_room = omega (arith, p.few); ends_room = omega (arith, p.few); scores_room = omega (arith, p.few) }) q;
-      few = omega (arith, p.few, q.room);
-      ordered = p.ordered;
-      bounded = p.bounded;
-    }
+pub loop-segment-init : goal.loop-segment-init
+unfolding keep
+loop-segment-init c = c.new-chosen.ensures
 
-pub returns : goal.returns
-returns c =
+pub asked-requires-clause-start_bounded : goal.asked-requires-clause-start_bounded
+asked-requires-clause-start_bounded c =
+    let g = each_at Good blank c.args.segments.now c.requires.each c.loop-segment.segment-index c.loop-segment-test.true in
+    omega (arith, g.ordered, g.bounded)
+
+pub of-requires : goal.of-requires
+of-requires c =
+    each_at Good blank c.args.segments.now c.requires.each c.loop-segment.segment-index c.loop-segment-test.true
+
+pub push-requires : goal.push-requires
+push-requires c =
     let a = c.args in
-    let m = c.score_matching in
-    back m.result m.type_inv
-    ∙ (m.ensures a.q.kind
-    ∙ ap (scored a.q.method a.s a.t)
-    (chosen_rows a.q a.s a.t (segment_at a.kind.now a.start.now a.end.now a.score.now) a.count c.gather-some.ensures))
+    let l = c.loop-segment in
+    let few : length l.chosen.items ≤ l.segment-index = rw l.invariant (kept_few (asked a.q a.s a.t) a.segments.now l.segment-index) in
+    (omega arith, omega arith)
+
+pub loop-segment-preserved : goal.loop-segment-preserved
+loop-segment-preserved c =
+    let a = c.args in
+    let l = c.loop-segment in
+    elim c.if-asked.branch [
+      | then-asked w ↦
+          let kept = kept_more (asked a.q a.s a.t) a.segments.now l.segment-index blank c.loop-segment-test.true (sym c.asked.ensures ∙ w.if-asked.true) in
+          cc
+      | else-asked w ↦
+          let kept = kept_same (asked a.q a.s a.t) a.segments.now l.segment-index blank c.loop-segment-test.true (sym c.asked.ensures ∙ w.if-asked.false) in
+          cc
+    ]

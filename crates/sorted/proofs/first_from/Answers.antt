@@ -1,25 +1,17 @@
--- `first_from` is right because it halves the rows between those that have less and those that have enough, until none is left between.
--- The loop's invariant: rows below `a` have less, and rows from `b` on have enough.
-use Prim.Native.Nat.{◌-◌}
-use native.Mathlib.Omega.{arith}
-use Rattle.sorted.proofs.Search.{Between, between_all, between_right, between_left, between_first}
-use borrow.Author.Rules.{rules}
+-- `first_from` is right because the rows that pass `key < x` stand before those that do not, and each call of the closure is that test.
+use Rattle.std.proofs.Common.{rules, of_calls, ◌≡◌, ℕ, [], ◌∷◌, Bor}
+use Rattle.std.proofs.lemmas.List.Sorted.{IsPartitionPoint-from_clause}
+use Rattle.std.proofs.Math.Dec.{ltb}
+use Rattle.sorted.proofs.Search.{parted, first_at_point}
 use Rattle.sorted.proofs.first_from.Goals as goal
 
-pub loop-a-init : goal.loop-a-init
-loop-a-init c = let a = c.args in between_all a.column.now a.lo a.hi a.x (omega arith)
-
-pub loop-a-preserved-then-column-m : goal.loop-a-preserved-then-column-m
-loop-a-preserved-then-column-m c =
-    let b = c in
-    let a = b.args in
-    between_right a.column.now a.lo a.hi a.x b.requires.rising c.loop-a.invariant (omega arith) (omega arith) c.if-column-m.true
-
-pub loop-a-preserved : goal.loop-a-preserved
-loop-a-preserved c =
-    let b = c in
-    let a = b.args in
-    between_left a.column.now a.lo a.hi a.x b.requires.rising c.loop-a.invariant (omega arith) (omega arith) c.if-column-m.false
-
 pub returns : goal.returns
-returns c = let a = c.args in between_first a.column.now a.lo a.hi a.x c.loop-a.invariant (omega arith)
+returns g c =
+    λ key computes rising.
+    let a = c.args in
+    let point = c.partition_point in
+    let answers : (a : Bor g.row.T.Denot × Unit {0}) (r : ℕ) → g.F.Fn.post c.args.key.now a r → r ≡ key a.0.now =
+    λ a r h. let call = (g.met.F.FnMut.1.post_iff _ _ _).0 h in (computes.at (a ∷ []) r call.0 call.1).0 in
+    first_at_point key a.rows.now a.x point.result point.ensures.bound
+    (IsPartitionPoint-from_clause (λ row. ltb (key row) a.x) a.rows.now point.result point.ensures.partitioned (parted key a.rows.now a.x rising)
+    (λ _ _ _ call. search (rules, of_calls, answers)))

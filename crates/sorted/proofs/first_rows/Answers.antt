@@ -1,26 +1,12 @@
--- `first_rows` is right because each number's first row is searched for. The invariant: the first rows of the numbers below x are stored.
-use borrow.Author.Rules.{rules}
-use mathlib.Core.Path.{◌≡◌, refl, ◌∙◌}
-use Prim.Native.Nat.{ℕ, ◌-◌, ◌<◌, ◌≤◌}
-use native.Mathlib.Omega.{arith}
-use lib.ListN.{length, get_or, length-set}
+-- `first_rows` is right because each key's first row is searched for.
+use Rattle.std.proofs.Common.{rules, of_calls, ◌≡◌, map, length, arith}
 use Rattle.sorted.specs.Sorted.{First}
-use Rattle.sorted.proofs.Search.{firsts_more}
+use Rattle.sorted.proofs.Calls.{at_each}
 use Rattle.sorted.proofs.first_rows.Goals as goal
 
-pub loop-x-smaller : goal.loop-x-smaller
-loop-x-smaller c = let l = c.loop-x in rw (length-set l.first l.x c.first_from.result) (omega arith)
-
-pub loop-x-preserved : goal.loop-x-preserved
-loop-x-preserved c =
-    let l = c.loop-x in
-    let a = c.args in (
-      rw (length-set l.first l.x c.first_from.result) (omega arith),
-      (
-        length-set l.first l.x c.first_from.result ∙ l.invariant.1.0,
-        firsts_more a.column.now l.first a.count l.x c.first_from.result (omega arith) l.invariant.1.1 c.first_from.ensures,
-      ),
-    )
-
-pub returns : goal.returns
-returns c = record { same_length = c.loop-x.invariant.1.0; found = record { at = λ x h. c.loop-x.invariant.1.1 x (omega arith) } }
+pub returns-clause-found : goal.returns-clause-found
+returns-clause-found g c =
+    λ key computes rising.
+    let made = c.from_fn.ensures.items in
+    let long : length c.from_fn.result ≡ g.row.N = made.long in
+    record { at = λ x lt. at_each _ (λ x y. First (map key c.args.rows.now) x y) _ c.from_fn.result (λ x y f called. search (rules, of_calls, computes, rising)) g.row.N made x (omega arith) 0 }

@@ -1,45 +1,28 @@
-use mathlib.Core.Path.{◌≡◌, refl, ◌∙◌}
-use Prim.Native.Nat.{◌+◌, ◌<◌}
-use native.Mathlib.Omega.{arith}
-use lib.ListN.{get_or}
-use Rattle.slots.proofs.Grouping.{sound_within}
-use Rattle.sums.proofs.Filling.{sums_none, sums_more}
+use Rattle.std.proofs.Common.{◌≡◌, ◌∙◌, arith, true, false, [], get_or, below_more, length-set}
+use Rattle.std.proofs.lemmas.List.{set-get_or}
+use Rattle.slots.specs.Slots.{slot_in}
+use Rattle.sums.specs.Table.{FilledRow}
+use Rattle.sums.proofs.Filling.{set_more}
 use Rattle.sums.proofs.fill_table.Goals as goal
+use Rattle.sums.proofs.fill_table.Goals.{then-summed-slot, else-summed-slot}
 
-pub loop-j-init : goal.loop-j-init
-loop-j-init c =
+pub loop-slot-preserved : goal.loop-slot-preserved
+loop-slot-preserved c =
     let a = c.args in
-    (omega arith, (refl, sums_none a.used.now a.at.now a.start.now a.end.now a.rate.now a.position.now a.n c.requires.filling.small))
-
-pub fill_if_used-requires : goal.fill_if_used-requires
-fill_if_used-requires c =
-    let a = c.args in
-    let l = c.loop-j in
-    let h : l.j < 64 = c.loop-j-test.true in
-    let p = c.requires.filling in
-    record {
-      sound = sound_within (get_or a.at.now l.j 0) (get_or a.at.now (l.j + 1) 0) (omega arith) (p.ordered l.j h) (p.within l.j h) c.requires.sound;
-      rising = p.rising l.j h;
-      few = p.few l.j h;
-      places = c.requires.places;
-      room = omega (arith, l.invariant.1.0, p.room, c.requires.places.few);
-    }
-
-pub loop-j-preserved : goal.loop-j-preserved
-loop-j-preserved c =
-    let a = c.args in
-    let l = c.loop-j in
-    let h : l.j < 64 = c.loop-j-test.true in
-    let s = c.fill_if_used.ensures in (
-      omega arith,
-      (
-        s.long ∙ l.invariant.1.0,
-        sums_more a.used.now a.at.now a.start.now a.end.now a.rate.now a.position.now a.n c.requires.places.few l.invariant.1.1 s,
-      ),
-    )
-
-pub returns : goal.returns
-returns c =
-    let l = c.loop-j in
-    let e : l.j ≡ 64 = omega arith in
-    rw e at l.invariant.1.1
+    let l = c.loop-slot in
+    elim c.if-summed-slot.branch [
+      | then-summed-slot w ↦
+          rw w.table-is
+          (record {
+            long = length-set l.table l.slot _ ∙ l.invariant.long;
+            filled = set_more (λ j row. get_or a.summed.now j false ≡ true → FilledRow (slot_in a.slots.now j) a.candidates.now row) [] l.table l.slot _ (omega (arith, l.invariant.long))
+                (λ on. rw w.slot.ensures.rows at w.fill_row.ensures) l.invariant.filled;
+          })
+      | else-summed-slot w ↦
+          rw (w.table-is, set-get_or l.table l.slot [])
+          (record {
+            long = l.invariant.long;
+            filled = below_more (λ j. get_or a.summed.now j false ≡ true → FilledRow (slot_in a.slots.now j) a.candidates.now (get_or l.table j [])) l.slot l.invariant.filled
+                (λ on. let off = w.if-summed-slot.false in absurd (cc));
+          })
+    ]

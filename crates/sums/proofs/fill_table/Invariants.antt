@@ -1,12 +1,12 @@
--- `fill_table` is right because each turn fills the part of one slot, and leaves the parts before it. The loop's invariant: the used slots below `j` are filled.
-use mathlib.Core.Path.{◌≡◌}
-use Prim.Native.Nat.{◌-◌, ◌≤◌}
-use lib.ListN.{length}
-use Rattle.sums.specs.Table.{Sums}
+-- `fill_table` is right because each turn fills the row of one slot, and leaves the others. The loop's invariant: the rows before this one are filled.
+use Rattle.std.proofs.Common.{◌≡◌, ℕ, ◌<◌, true, false, [], get_or, length}
+use Rattle.slots.specs.Slots.{slot_in}
+use Rattle.sums.specs.Table.{FilledRow}
 use Rattle.sums.proofs.fill_table.Given as goal
 
-abbrev pub invariant-loop-j : goal.invariant-loop-j
-invariant-loop-j l = (l.j ≤ 64) × ((length l.table ≡ length l.initial.table) × Sums l.used l.at l.start l.end l.rate l.position l.n l.j l.table)
-
-abbrev pub decreases-loop-j : goal.decreases-loop-j
-decreases-loop-j l = 64 - l.j
+abbrev pub invariant-loop-slot : goal.invariant-loop-slot
+invariant-loop-slot l =
+    record {
+      long : length l.table ≡ 64;
+      filled : (j : ℕ) → j < l.slot → get_or l.summed j false ≡ true → FilledRow (slot_in l.slots j) l.candidates (get_or l.table j []);
+    }

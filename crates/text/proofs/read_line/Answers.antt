@@ -1,24 +1,16 @@
--- `read_line` is right because it asks for the letter as the definition does, and `read_fields` reads what stands after it.
-use mathlib.Core.Path.{sym, ap, ◌∙◌}
-use native.Mathlib.Omega.{arith}
-use Rattle.text.specs.Fields.{fields, row_of}
-use Rattle.text.proofs.Words.{part_to_end}
-use Rattle.text.proofs.Fields.{line_empty, line_other, line_fields}
+-- The row begins with no number read, and each turn of the loop reads one more.
+use Rattle.std.proofs.Common.{rules, ap, ◌∙◌, w64, FitsSigned, arith}
+use Rattle.std.proofs.Math.ListN.{length-replicate}
+use Rattle.text.specs.Number.{number}
+use Rattle.text.proofs.Fields.{lettered, none_read, one_read}
 use Rattle.text.proofs.read_line.Goals as goal
 
-pub returns-then-bytes-eq0 : goal.returns-then-bytes-eq0
-returns-then-bytes-eq0 c =
-    let a = c.args in
-    c.malformed.ensures ∙ ap row_of (sym (line_empty a.letter a.separator a.count a.bytes.now c.if-bytes-eq0.true))
+pub loop-number-init : goal.loop-number-init
+loop-number-init g c = none_read _ _ _ _ _ (length-replicate _ _) (lettered _ _ _ _ _ c.in_ok-rest.ensures)
 
-pub returns-then-bytes-letter : goal.returns-then-bytes-letter
-returns-then-bytes-letter c =
-    let a = c.args in
-    c.malformed-then-bytes-letter.ensures ∙ ap row_of (sym (line_other a.letter a.separator a.count a.bytes.now (omega arith) c.if-bytes-letter.true))
-
-pub returns : goal.returns
-returns c =
-    let a = c.args in
-    let b = a.bytes.now in
-    let e = line_fields a.letter a.separator a.count b (omega arith) c.if-bytes-letter.false in
-    c.read_fields.ensures ∙ ap row_of (ap (fields a.separator a.count) (part_to_end b 1) ∙ sym e)
+pub loop-number-preserved : goal.loop-number-preserved
+loop-number-preserved g c =
+    let f : FitsSigned w64 c.in_ok-number.field-0 = search rules in
+    let w = c.in_ok-number.ensures ∙ ap number c.cut.ensures.0 in
+    let next = one_read c.loop-number.invariant (omega arith) c.in_ok-word.word.now c.in_ok-word.ensures c.in_ok-number.field-0 w in
+    search rules

@@ -1,0 +1,33 @@
+-- The running sum of the largest rates, and how large it can be.
+use Rattle.std.proofs.Common.{◌≡◌, refl, sym, ap, ◌∙◌, arith}
+use native.Mathlib.Nat.{mul-le-mul_right}
+use Rattle.std.specs.Prelude.{List, ℕ, ◌-◌, ◌*◌, ◌≤◌, ◌<◌, ℤ, pos, nat_abs, ◌+ℤ◌, ◌-ℤ◌, ◌*ℤ◌}
+use Rattle.whole.proofs.Order.{+ℤ_drop_first}
+use Rattle.whole.proofs.Size.{abs_sum, abs_mul}
+use Rattle.gaze.specs.declared.Segment.{Segment}
+use Rattle.gaze.specs.SegmentScore.{largest_rate, sum_over}
+use Rattle.sums.specs.Table.{upto}
+use Rattle.rows.proofs.Bases.{sum_joined, sum_flat}
+
+-- before the first base
+pub upto_none : (segments : List Segment) → upto segments 1 ≡ pos 0
+unfolding sum_over
+upto_none segments = refl
+
+-- on a plateau
+pub upto_on : (segments : List Segment) (at p : ℕ) (z : ℤ) → 1 ≤ at → at ≤ p → ((x : ℕ) → at ≤ x → x < p → largest_rate segments x ≡ z)
+    → upto segments at +ℤ z *ℤ pos (p - at) ≡ upto segments p
+upto_on segments at p z h k flat =
+    ap (λ (y : ℤ). upto segments at +ℤ y) (sym (sum_flat (largest_rate segments) at (p - at) z (λ x l u. flat x l (omega arith))))
+    ∙ sym (sum_joined (largest_rate segments) 1 at p h k)
+
+pub size_on : (sum z : ℤ) (at p : ℕ) → 1 ≤ at → at ≤ p → nat_abs sum ≤ (at - 1) * 10000000000 → nat_abs z ≤ 10000000000
+    → nat_abs (sum +ℤ z *ℤ pos (p - at)) ≤ (p - 1) * 10000000000
+size_on sum z at p h k s v =
+    omega (arith, abs_sum sum (z *ℤ pos (p - at)), abs_mul z (p - at), mul-le-mul_right (p - at) v)
+
+-- what one sum has more than an earlier one
+pub difference : (segments : List Segment) (p q : ℕ) → 1 ≤ p → p ≤ q → upto segments q -ℤ upto segments p ≡ sum_over (largest_rate segments) p (q - p)
+difference segments p q h k =
+    ap (λ (z : ℤ). z -ℤ upto segments p) (sum_joined (largest_rate segments) 1 p q h k)
+    ∙ +ℤ_drop_first (upto segments p) (sum_over (largest_rate segments) p (q - p))
