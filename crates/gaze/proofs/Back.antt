@@ -78,7 +78,7 @@ module _ (m : Steps) where
   pub total_chain : (c : List ℕ) → total m c ≡ back_total m (reverse c)
   total_chain c = ap (total m) (sym (reverse-reverse c)) ∙ total_back (reverse c)
 
-  -- ---- so the best of these is the best chain, read back
+  -- ---- so the best chain, read back, is the best of these
   pub back_best : (e : ℕ) (l : List ℕ) → BackBest m e l → Best m e (reverse l)
   back_best e l b =
       record {
@@ -90,6 +90,19 @@ module _ (m : Steps) where
             (λ (h : reverse d ≡ l). sym (reverse-reverse d) ∙ ap reverse h)
             (λ (h : Later l (reverse d)). rw reverse-reverse h)
             (b.latest (reverse d) (valid→back e d v) even);
+      }
+
+  pub best_back : (e : ℕ) (c : List ℕ) → Best m e c → BackBest m e (reverse c)
+  best_back e c b =
+      record {
+        back = valid→back e c b.valid;
+        most = λ k v. rw (← total_back k, ← total_chain c) (b.most (reverse k) (back→valid e k v));
+        latest = λ k v same.
+            let even : total m (reverse k) ≡ total m c = total_back k ∙ (same ∙ sym (total_chain c)) in
+            ⊎_map
+            (λ (h : reverse k ≡ c). sym (reverse-reverse k) ∙ ap reverse h)
+            (λ (h : Later (reverse c) (reverse (reverse k))). rw reverse-reverse at h)
+            (b.latest (reverse k) (back→valid e k v) even);
       }
 
   -- ---- small facts

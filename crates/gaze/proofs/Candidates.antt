@@ -1,17 +1,18 @@
 -- The candidates of a sheet in range: BEGIN and END among them stand from 1 to 4,000,000 with a type below 32 and a score in its range, and
 -- their positions never fall.
-use mathlib.Core.Path.{◌≡◌}
+use mathlib.Core.Path.{◌≡◌, sym, ap, ◌∙◌}
 use mathlib.Core.Logic.{inl, inr, ⊎_elim}
 use mathlib.Core.List.{List, [], ◌∷◌, ◌++◌}
 use Prim.Native.Nat.{ℕ, suc, ◌+◌, ◌≤◌, ◌<◌}
 use native.Mathlib.Nat.{eq-or-lt_of_le}
 use native.Mathlib.Omega.{arith}
-use lib.ListN.{length, length-append, get_or-eq_default}
+use lib.ListN.{length, length-append, get_or-append, get_or-eq_default}
+use lib.Seq.{ext_get_or}
 use Rattle.gaze.specs.declared.Feature.{Feature}
-use Rattle.gaze.specs.Lists.{Each, Adjacent}
+use Rattle.gaze.specs.Lists.{Each, Adjacent, listed}
 use Rattle.gaze.specs.Sheet.{Sheet, begin, end, candidates, candidate, end_number}
 use Rattle.gaze.specs.Ranges.{Within, Thousandths, FeatureRanges, Before, InOrder, feature_keys, InRange}
-use Rattle.gaze.proofs.ListLaws.{each_at, each_append, each_map, adjacent_all}
+use Rattle.gaze.proofs.ListLaws.{each_at, each_append, each_map, adjacent_all, listed_length, listed_at}
 use Rattle.gaze.proofs.Tests.{at_or_below}
 
 pub record Placed (f : Feature) : Type 0 where
@@ -93,3 +94,15 @@ module _ (sheet : Sheet) (r : InRange sheet) where
       (λ (e : a ≡ b). rw e (omega arith))
       (λ (lt : a < b). adjacent_all NotBehind (λ f g e p q. omega arith) (end sheet) (candidates sheet) in_order a b lt (rw candidates_length (omega arith)))
       (eq-or-lt_of_le h)
+
+-- the F lines are candidates 1 to n
+pub features_listed : (sheet : Sheet) → sheet.features ≡ listed (candidate sheet) 1 (length sheet.features)
+unfolding candidate candidates
+features_listed sheet =
+    ext_get_or (end sheet) sheet.features (listed (candidate sheet) 1 (length sheet.features))
+    (sym (listed_length (candidate sheet) 1 (length sheet.features)))
+    (λ i h. sym (get_or-append sheet.features (end sheet ∷ []) (end sheet) i h)
+    ∙ (ap (candidate sheet) (one_on i) ∙ sym (listed_at (candidate sheet) 1 (length sheet.features) (end sheet) i h)))
+  where
+    one_on : (i : ℕ) → suc i ≡ 1 + i
+    one_on i = omega arith

@@ -2,7 +2,7 @@
 use mathlib.Core.Logic.{⊎_elim}
 use mathlib.Core.Path.{◌≡◌, refl, sym, ap, ap₂, ◌∙◌}
 use mathlib.Core.Bool.{Bool, true, false, cond, ◌&&◌, ◌||◌}
-use mathlib.Core.List.{List, [], ◌∷◌, ◌++◌, append-nil, map, map-append}
+use mathlib.Core.List.{List, [], ◌∷◌, ◌++◌, append-nil, append_assoc, map, map-append}
 use Prim.Native.Nat.{ℕ, zero, suc, ◌+◌, ◌-◌, ◌<◌, ◌≤◌}
 use native.Mathlib.Nat.{eq-or-lt_of_le}
 use native.Mathlib.Omega.{arith}
@@ -163,6 +163,16 @@ keep_twice p q (a ∷ l) = rw (← keep_twice p q l) (go (p a))
     go true = refl
     go false = refl
 
+-- a test that a function does not change
+pub keep_map : {A B : Type 0} (f : A → B) (p : B → Bool) (q : A → Bool) (l : List A) → ((a : A) → p (f a) ≡ q a) → keep p (map f l) ≡ map f (keep q l)
+unfolding keep
+keep_map f p q [] h = refl
+keep_map f p q (a ∷ l) h = rw (h a, keep_map f p q l h) (go (q a))
+  where
+    go : (b : Bool) → cond b (f a ∷ map f (keep q l)) (map f (keep q l)) ≡ map f (cond b (a ∷ keep q l) (keep q l))
+    go true = refl
+    go false = refl
+
 -- ---- the list that a function gives
 
 pub listed_length : {A : Type 0} (f : ℕ → A) (lo n : ℕ) → length (listed f lo n) ≡ n
@@ -200,6 +210,24 @@ listed_same f g lo zero h = refl
 listed_same f g lo (suc n) h =
     ap₂ ◌++◌ (listed_same f g lo n (λ i l u. h i l (omega arith))) (ap (λ (a : _). a ∷ []) (h (lo + n) (omega arith) (omega arith)))
 
+-- in two parts
+pub listed_joined : {A : Type 0} (f : ℕ → A) (lo m n : ℕ) → listed f lo (m + n) ≡ listed f lo m ++ listed f (lo + m) n
+unfolding listed
+listed_joined f lo m zero = rw (zero_right m) (sym (append-nil (listed f lo m)))
+  where
+    zero_right : (m : ℕ) → m + 0 ≡ m
+    zero_right m = omega arith
+listed_joined f lo m (suc n) =
+    ap (listed f lo) (suc_right m n)
+    ∙ (ap₂ (λ (l : List _) (i : ℕ). l ++ (f i ∷ [])) (listed_joined f lo m n) (regroup lo m n)
+    ∙ append_assoc (listed f lo m) (listed f (lo + m) n) (f (lo + m + n) ∷ []))
+  where
+    suc_right : (m n : ℕ) → m + suc n ≡ suc (m + n)
+    suc_right m n = omega arith
+
+    regroup : (lo m n : ℕ) → lo + (m + n) ≡ lo + m + n
+    regroup lo m n = omega arith
+
 -- the first of them apart
 pub listed_first : {A : Type 0} (f : ℕ → A) (lo n : ℕ) → listed f lo (suc n) ≡ f lo ∷ listed f (suc lo) n
 unfolding listed
@@ -211,6 +239,28 @@ listed_first f lo (suc n) = rw (listed_first f lo n, suc_right lo n) refl
   where
     suc_right : (m n : ℕ) → m + suc n ≡ suc m + n
     suc_right m n = omega arith
+
+keep_joined : {A : Type 0} (test : A → Bool) (f : ℕ → A) (k m n : ℕ) → n ≡ k + m
+    → keep test (listed f 0 n) ≡ keep test (listed f 0 k) ++ keep test (listed f k m)
+keep_joined test f k m n e =
+    let zero_left : 0 + k ≡ k = omega arith in
+    ap (λ (i : ℕ). keep test (listed f 0 i)) e
+    ∙ (ap (keep test) (listed_joined f 0 k m ∙ ap (λ (i : ℕ). listed f 0 k ++ listed f i m) zero_left)
+    ∙ keep_append test (listed f 0 k) (listed f k m))
+
+-- what is kept of it, where those from lo to hi pass, and no others do
+pub listed_part : {A : Type 0} (test : A → Bool) (f : ℕ → A) (lo hi n : ℕ) → lo ≤ hi → hi ≤ n
+    → ((i : ℕ) → i < lo → test (f i) ≡ false)
+    → ((i : ℕ) → lo ≤ i → i < hi → test (f i) ≡ true)
+    → ((i : ℕ) → hi ≤ i → i < n → test (f i) ≡ false)
+    → keep test (listed f 0 n) ≡ listed f lo (hi - lo)
+listed_part test f lo hi n h k before within after =
+    let none_before = keep_no test (listed f 0 lo) (each_listed (λ a. test a ≡ false) f 0 lo (λ i l u. before i (omega arith))) in
+    let all_within = keep_each test (listed f lo (hi - lo)) (each_listed (λ a. test a ≡ true) f lo (hi - lo) (λ i l u. within i l (omega arith))) in
+    let none_after = keep_no test (listed f hi (n - hi)) (each_listed (λ a. test a ≡ false) f hi (n - hi) (λ i l u. after i l (omega arith))) in
+    keep_joined test f hi (n - hi) n (omega arith)
+    ∙ (ap₂ ◌++◌ (keep_joined test f lo (hi - lo) hi (omega arith) ∙ ap₂ ◌++◌ none_before all_within) none_after
+    ∙ append-nil (listed f lo (hi - lo)))
 
 -- what a function makes of a list, where another gives the same by place
 pub map_by_place : {A B : Type 0} (g : A → B) (f : ℕ → B) (d : A) (lo : ℕ) (l : List A) → ((i : ℕ) → i < length l → f (lo + i) ≡ g (get_or l i d)) → map g l ≡ listed f lo (length l)

@@ -5,7 +5,7 @@ use Rattle.std.specs.List.{slice_get}
 use borrow.Author.Tests.{le-leb, lt-leb}
 use Rattle.gaze.specs.declared.Point.{Point}
 use Rattle.gaze.specs.Lists.{Each}
-use Rattle.gaze.specs.Penalty.{on_line, past, interpolated}
+use Rattle.gaze.specs.Penalty.{on_line, beyond, past, interpolated}
 
 -- the last point before the distance, and the first at it or beyond
 abbrev pub by_ends : Option Point → Option Point → ℕ → ℤ
@@ -40,3 +40,10 @@ module _ (d : ℕ) where
       let one_on : suc (length (q ∷ l) - 1) ≡ length (p ∷ q ∷ l) - 1 = omega arith in
       passed p q (l ++ after) e.0 e.1.0
       ∙ (interpolated_by_ends (q ∷ l) after e.1 f ∙ ap (λ (i : ℕ). by_ends (slice_get (p ∷ q ∷ l) i) (slice_get after 0) d) one_on)
+
+  -- two points or more, all of them before it
+  pub interpolated_beyond : (l : List Point) (p q : Point) → Each Before (l ++ p ∷ q ∷ []) → interpolated (l ++ p ∷ q ∷ []) d ≡ beyond p q d
+  unfolding interpolated past Each
+  interpolated_beyond [] p q e = rw (lt-leb d p.distance e.0, lt-leb d q.distance e.1.0) refl
+  interpolated_beyond (r ∷ []) p q e = passed r p (q ∷ []) e.0 e.1.0 ∙ interpolated_beyond [] p q e.1
+  interpolated_beyond (r ∷ s ∷ l) p q e = passed r s (l ++ p ∷ q ∷ []) e.0 e.1.0 ∙ interpolated_beyond (s ∷ l) p q e.1

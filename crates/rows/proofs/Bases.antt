@@ -1,5 +1,5 @@
--- Sums over bases: in two parts, and of the same number at each base.
-use mathlib.Core.Path.{◌≡◌, sym, ap, ap₂, ◌∙◌}
+-- Sums over bases: in two parts, of what is the same at each base, and of the same number at each base.
+use mathlib.Core.Path.{◌≡◌, refl, sym, ap, ap₂, ◌∙◌}
 use Prim.Native.Nat.{ℕ, zero, suc, ◌+◌, ◌-◌, ◌≤◌, ◌<◌}
 use native.Mathlib.Nat.{add-suc, add-zero, add_assoc}
 use native.Mathlib.Omega.{arith}
@@ -21,6 +21,12 @@ sum_joined f a b c h k =
     let n : c - a ≡ (b - a) + (c - b) = omega arith in
     let e : a + (b - a) ≡ b = omega arith in
     ap (sum_over f a) n ∙ (sum_split f a (b - a) (c - b) ∙ ap (λ (x : ℕ). sum_over f a (b - a) +ℤ sum_over f x (c - b)) e)
+
+-- of two functions that are the same at each base
+pub sum_same : (f g : ℕ → ℤ) (a n : ℕ) → ((x : ℕ) → a ≤ x → x < a + n → f x ≡ g x) → sum_over f a n ≡ sum_over g a n
+unfolding sum_over
+sum_same f g a zero h = refl
+sum_same f g a (suc n) h = ap₂ ◌+ℤ◌ (sum_same f g a n (λ x l u. h x l (omega arith))) (h (a + n) (omega arith) (omega arith))
 
 -- of one number, which stands at each base
 pub sum_flat : (f : ℕ → ℤ) (a n : ℕ) (z : ℤ) → ((y : ℕ) → a ≤ y → y < a + n → f y ≡ z) → sum_over f a n ≡ z *ℤ pos n

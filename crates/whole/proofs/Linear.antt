@@ -4,7 +4,7 @@ use mathlib.Core.Path.{◌≡◌, refl, ap}
 use mathlib.Core.Bool.{Bool, true, false, not, cond}
 use Prim.Native.Nat.{ℕ, zero, suc, ◌+◌, ◌-◌, ◌≤◌, ◌<◌}
 use native.Mathlib.Omega.{arith}
-use lib.Dec.{T, ltb, ltb→lt, nltb→le, le→leb, leb→le}
+use lib.Dec.{T, ltb, ltb→lt, nltb→le, lt→ltb, le→leb, leb→le}
 use lib.IntN.{ℤ, pos, negsuc, neg_ℤ, nat_abs, sub_ℕ, ◌+ℤ◌, ◌-ℤ◌}
 use lib.Signed.{◌≤ℤ◌, ◌<ℤ◌}
 
@@ -62,6 +62,15 @@ lt_law (pos a) (pos b) h = let k = ltb→lt a b h.lt in omega arith
 lt_law (pos a) (negsuc b) h = absurd h.lt
 lt_law (negsuc a) (pos b) h = omega arith
 lt_law (negsuc a) (negsuc b) h = let k = ltb→lt b a h.lt in omega arith
+
+pub lt_of : (x y : ℤ) → up x + dn y < up y + dn x → x <ℤ y
+lt_of (pos a) (pos b) h = record { lt = lt→ltb a b (omega arith) }
+lt_of (pos a) (negsuc b) h = absurd (never a b h)
+  where
+    never : (a b : ℕ) → a + suc b < 0 + 0 → ⊥
+    never a b h = omega arith
+lt_of (negsuc a) (pos b) h = record { lt = tt }
+lt_of (negsuc a) (negsuc b) h = record { lt = lt→ltb b a (omega arith) }
 
 -- ---- equality: an equation is read by `ap up` and `ap dn`
 pub eq_of : (x y : ℤ) → up x + dn y ≡ up y + dn x → x ≡ y

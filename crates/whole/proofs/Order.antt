@@ -4,13 +4,16 @@ use Prim.Native.Nat.{ℕ, suc}
 use native.Mathlib.Omega.{arith}
 use lib.IntN.{ℤ, pos, ◌+ℤ◌, ◌-ℤ◌, ◌*ℤ◌, +ℤ_comm, +ℤ-neg_ℤ_cancel, *ℤ_comm, suc_ℤ-*ℤ}
 use lib.Signed.{◌≤ℤ◌, ◌<ℤ◌}
-use Rattle.whole.proofs.Linear.{up, dn, sum_law, le_law, le_of, lt_law, eq_of}
+use Rattle.whole.proofs.Linear.{up, dn, sum_law, le_law, le_of, lt_law, lt_of, eq_of}
 
 pub ≤ℤ_antisymm : {a b : ℤ} → a ≤ℤ b → b ≤ℤ a → a ≡ b
 ≤ℤ_antisymm {a} {b} h k = eq_of a b (omega (arith, le_law a b h, le_law b a k))
 
 pub ≤ℤ_trans : {a b c : ℤ} → a ≤ℤ b → b ≤ℤ c → a ≤ℤ c
 ≤ℤ_trans {a} {b} {c} h k = le_of a c (omega (arith, le_law a b h, le_law b c k))
+
+pub ≤ℤ_<ℤ_trans : {a b c : ℤ} → a ≤ℤ b → b <ℤ c → a <ℤ c
+≤ℤ_<ℤ_trans {a} {b} {c} h k = lt_of a c (omega (arith, le_law a b h, lt_law b c k))
 
 pub <ℤ_le : {a b : ℤ} → a <ℤ b → a ≤ℤ b
 <ℤ_le {a} {b} h = le_of a b (omega (arith, lt_law a b h))
@@ -19,6 +22,9 @@ pub <ℤ_ne : {a b : ℤ} → a <ℤ b → a ≡ b → ⊥
 <ℤ_ne {a} {b} h e = omega (arith, lt_law a b h, ap up e, ap dn e)
 
 -- ---- sums
+pub ≤ℤ_more : (a : ℤ) (k : ℕ) → a ≤ℤ (a +ℤ pos k)
+≤ℤ_more a k = le_of a (a +ℤ pos k) (omega (arith, sum_law a (pos k)))
+
 pub +ℤ_mono_l : {a b : ℤ} (c : ℤ) → a ≤ℤ b → (a +ℤ c) ≤ℤ (b +ℤ c)
 +ℤ_mono_l {a} {b} c h = le_of (a +ℤ c) (b +ℤ c) (omega (arith, sum_law a c, sum_law b c, le_law a b h))
 
