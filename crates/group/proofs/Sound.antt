@@ -1,4 +1,4 @@
--- The lines that a group is read into: no more than its most, each of a row in its ranges, and in strict order.
+-- The lines that a group is read into, up to the first at fault: no more than its most, each of a row in its ranges, and in strict order.
 use Rattle.std.proofs.Common.{Bool, true, false, List, [], ◌∷◌, ◌++◌, ◌≡◌, refl, ap, ℕ, ◌+◌, ◌<◌, ◌≤◌, arith, length, length-append, map, Option, Some, None, Result, Ok, Err}
 use Rattle.std.specs.Prelude.{cond, leb, ℤ}
 use Rattle.std.specs.List.{last_or}
@@ -16,7 +16,7 @@ use Rattle.kinds.specs.Kinds.{Letter, byte_of, fields_of, most_of, in_range}
 use Rattle.kinds.specs.Records.{ranged, of_row, or_out_of_range, line_of}
 use Rattle.kinds.proofs.Order.{stands_before}
 use Rattle.group.specs.declared.Placed.{Placed}
-use Rattle.group.specs.Group.{disorder_after, unless, is_malformed, in_turn, at_place, read}
+use Rattle.group.specs.Group.{disorder_after, unless, is_malformed, in_turn, at_place, read, so_far, lines_before}
 
 -- ---- what a line has passed
 module _ {A : Type 0} (most : ℕ) (keys : A → List ℕ) (done : List (Placed A)) (line : A) where
@@ -61,6 +61,15 @@ at_ok : {A B : Type 0} (place : ℕ) (r : Result A Reason) (go : A → Result B 
 at_ok place (Ok a) go b e = (a, refl, e)
 at_ok place (Err reason) go b e = cc
 
+-- a group that is accepted has its lines before the first at fault: all of them
+pub all_before : {A : Type 0} (letter : Letter) (of : List ℤ → A) (keys : A → List ℕ) (bases offset : ℕ) (done : List (Placed A)) (ls : List Line) (placed : List (Placed A))
+    → read letter of keys bases offset done ls ≡ Ok placed → lines_before letter of keys bases offset done ls ≡ placed
+unfolding read lines_before
+all_before letter of keys bases offset done [] placed e = cc
+all_before letter of keys bases offset done (l ∷ ls) placed e =
+    let p = at_ok offset (in_turn (most_of letter) keys done (line_of letter of bases l.bytes)) _ placed e in
+    rw p.1 (all_before letter of keys bases (offset + length l.bytes + 1) (done ++ (record { line = p.0; place = offset } ∷ [])) ls placed p.2)
+
 -- ---- a list in order, with one more
 more_in_order : {A : Type 0} (R : A → A → Type 0) (a : A) (l : List A) (b : A) → Adjacent R (a ∷ l) → ((c : A) → last_or (Some a) l ≡ Some c → R c b) → Adjacent R (a ∷ (l ++ (b ∷ [])))
 unfolding Adjacent
@@ -70,7 +79,7 @@ more_in_order R a (c ∷ l) b p f = (p.0, more_in_order R c l b p.1 f)
 -- ---- the group
 module _ {A : Type 0} (letter : Letter) (of : List ℤ → A) (keys : A → List ℕ) (bases : ℕ) (In : A → Type 0)
     (in_ranges : (row : List ℤ) → in_range letter bases row ≡ true → In (of row)) (same : (a b : A) → length (keys a) ≡ length (keys b)) where
-  record Sound (done : List (Placed A)) : Type 0 where
+  pub record Sound (done : List (Placed A)) : Type 0 where
     pub few : length done ≤ most_of letter
     pub each : Each (λ p. In p.line) done
     pub ordered : Adjacent (λ p q. Before (keys p.line) (keys q.line)) done
@@ -95,14 +104,23 @@ module _ {A : Type 0} (letter : Letter) (of : List ℤ → A) (keys : A → List
         ordered = in_line done next s.ordered p.after;
       }
 
+  pub sound_before : (offset : ℕ) (done : List (Placed A)) (ls : List Line) → Sound done → Sound (lines_before letter of keys bases offset done ls)
+  unfolding lines_before
+  sound_before offset done [] s = s
+  sound_before offset done (l ∷ ls) s =
+      go (in_turn (most_of letter) keys done (line_of letter of bases l.bytes)) refl
+      (λ line. sound_before (offset + length l.bytes + 1) (done ++ (record { line = line; place = offset } ∷ [])) ls)
+    where
+      rest : A → List (Placed A)
+      rest line = lines_before letter of keys bases (offset + length l.bytes + 1) (done ++ (record { line = line; place = offset } ∷ [])) ls
+
+      go : (r : Result A Reason) → in_turn (most_of letter) keys done (line_of letter of bases l.bytes) ≡ r
+          → ((line : A) → Sound (done ++ (record { line = line; place = offset } ∷ [])) → Sound (rest line)) → Sound (so_far done r rest)
+      go (Ok line) e next = next line (more offset done line l.bytes s (passed (most_of letter) keys done line (line_of letter of bases l.bytes) e))
+      go (Err reason) e next = s
+
   sound_from : (offset : ℕ) (done : List (Placed A)) (ls : List Line) (placed : List (Placed A)) → Sound done → read letter of keys bases offset done ls ≡ Ok placed → Sound placed
-  unfolding read
-  sound_from offset done [] placed s e = let k : done ≡ placed = cc in rw (← k) s
-  sound_from offset done (l ∷ ls) placed s e =
-      let p = at_ok offset (in_turn (most_of letter) keys done (line_of letter of bases l.bytes)) _ placed e in
-      sound_from (offset + length l.bytes + 1) (done ++ (record { line = p.0; place = offset } ∷ [])) ls placed
-      (more offset done p.0 l.bytes s (passed (most_of letter) keys done p.0 (line_of letter of bases l.bytes) p.1))
-      p.2
+  sound_from offset done ls placed s e = rw (all_before letter of keys bases offset done ls placed e) at (sound_before offset done ls s)
 
   pub sound : (offset : ℕ) (ls : List Line) (placed : List (Placed A)) → read letter of keys bases offset [] ls ≡ Ok placed → Group (most_of letter) In keys (map (λ p. p.line) placed)
   unfolding Each Adjacent

@@ -46,6 +46,23 @@ read letter of keys bases offset done (l ∷ ls) =
     at_place offset (in_turn (most_of letter) keys done (line_of letter of bases l.bytes))
     (λ line. read letter of keys bases (offset + length l.bytes + 1) (done ++ (record { line = line; place = offset } ∷ [])) ls)
 
+-- On with a line, or no further than the lines before it.
+abbrev pub so_far : {A : Type 0} → List (Placed A) → Result A Reason → (A → List (Placed A)) → List (Placed A)
+so_far done (Ok line) go = go line
+so_far done (Err reason) go = done
+
+-- The lines of a group before the first at fault, by the same steps as `read`: all of them, where none is.
+unfoldable pub lines_before : {A : Type 0} → Letter → (List ℤ → A) → (A → List ℕ) → ℕ → ℕ → List (Placed A) → List Line → List (Placed A)
+lines_before letter of keys bases offset done [] = done
+lines_before letter of keys bases offset done (l ∷ ls) =
+    so_far done (in_turn (most_of letter) keys done (line_of letter of bases l.bytes))
+    (λ line. lines_before letter of keys bases (offset + length l.bytes + 1) (done ++ (record { line = line; place = offset } ∷ [])) ls)
+
+-- The outcome of a reading that leaves its lines in a vector which it is lent.
+abbrev pub outcome_of : {A B E : Type 0} → Result B E → List A → Result (List A) E
+outcome_of (Ok b) items = Ok items
+outcome_of (Err e) items = Err e
+
 -- The list that the code hands over in a vector.
 abbrev pub items_of : {A E : Type 0} → Result (ArrayVec A) E → Result (List A) E
 items_of (Ok v) = Ok v.items

@@ -6,7 +6,7 @@ ghost use Rattle.std.specs.Prelude.{◌≡◌, [], ◌+◌, ◌<◌, ◌≤◌, 
 ghost use Rattle.arrayvec.specs.ArrayVec.{array_vec_len};
 ghost use Rattle.kinds.specs.Kinds.{most_of};
 ghost use Rattle.text.specs.Lines.{lines};
-ghost use Rattle.group.specs.Group.{in_turn, read, items_of};
+ghost use Rattle.group.specs.Group.{in_turn, read, lines_before, outcome_of};
 
 use arrayvec::ArrayVec;
 use kinds::{Line, disorder};
@@ -26,14 +26,14 @@ fn in_turn<L: Line, const N: usize>(
     done: &ArrayVec<Placed<L>, N>,
     line: Result<L, Reason>,
 ) -> Result<L, Reason>
-    requires { N ≡ most_of L.letter }
+    requires { most_of L.letter ≤ N }
     ensures line { result ≡ in_turn (most_of L.letter) L.keys done.now.items line }
     ensures room { IfOk result (λ _. array_vec_len done.now < N) }
 {
     if let Err(Reason::Malformed) = line {
         return line;
     }
-    if done.is_full() {
+    if done.len() >= L::most() {
         return Err(Reason::Crowded);
     }
     let line = line?;
@@ -45,29 +45,31 @@ fn in_turn<L: Line, const N: usize>(
     Ok(line)
 }
 
-// Reads the lines of a group, which stand in the sheet from `offset` on.
-#[tactic(auto, using(crate::proofs::Turns::end_low, crate::proofs::Turns::end_high, crate::proofs::Turns::read_end, crate::proofs::Turns::read_refused, crate::proofs::Turns::read_on))]
+// Reads the lines of a group, which stand in the sheet from `offset` on, and leaves in the vector those before the first line at fault.
+#[tactic(auto, using(crate::proofs::Turns::end_low, crate::proofs::Turns::end_high, crate::proofs::Turns::read_end, crate::proofs::Turns::read_refused, crate::proofs::Turns::read_on, crate::proofs::Turns::before_end, crate::proofs::Turns::before_refused, crate::proofs::Turns::before_on))]
 pub fn read_group<L: Line, const N: usize>(
     bytes: &[u8],
     offset: usize,
     bases: u32,
-) -> Result<ArrayVec<Placed<L>, N>, Refusal>
-    requires room { N ≡ most_of L.letter }
+    group: &mut ArrayVec<Placed<L>, N>,
+) -> Result<(), Refusal>
+    requires room { most_of L.letter ≤ N }
     requires short { offset + length bytes.now ≤ 65536 }
-    ensures { items_of result ≡ read L.letter L.of L.keys bases offset [] (lines bytes.now) }
+    ensures outcome { outcome_of result group.new.items ≡ read L.letter L.of L.keys bases offset [] (lines bytes.now) }
+    ensures before { group.new.items ≡ lines_before L.letter L.of L.keys bases offset [] (lines bytes.now) }
 {
-    let mut group = ArrayVec::new();
+    group.clear();
     let mut place = 0;
     // Written as a `while`, since a refusal needs the place of its line: `split_inclusive` gives no places, and leaves each line its LF.
     while place < bytes.len() {
         let end = find(bytes, place, b'\n');
         let at = (offset + place) as u64;
         // A `match` and not `map_err`, since the clause of its closure did not unfold in the proof.
-        match in_turn(&group, L::read(&bytes[place..end], bases)) {
+        match in_turn(group, L::read(&bytes[place..end], bases)) {
             Ok(line) => group.push(Placed { line, place: at }),
             Err(reason) => return Err(Refusal { reason, place: at }),
         }
         place = end + 1;
     }
-    Ok(group)
+    Ok(())
 }

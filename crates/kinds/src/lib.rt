@@ -7,7 +7,7 @@ ghost use Rattle.std.specs.Option.{ok_or};
 ghost use Rattle.gaze.specs.Ranges.{point_keys, rule_keys, qualifier_keys, feature_keys, segment_keys};
 ghost use Rattle.text.specs.Fields.{line};
 ghost use Rattle.refusal.specs.declared.Reason.TheVariants.{Malformed};
-ghost use Rattle.kinds.specs.Kinds.{Letter, L, P, R, Q, F, S, field, between, thousandths, source_type, interruption};
+ghost use Rattle.kinds.specs.Kinds.{Letter, L, P, R, Q, F, S, most_of, field, between, thousandths, source_type, interruption};
 ghost use Rattle.kinds.specs.Records.{line_of, number, interruption_of, ranged, length_of, point_of, rule_of, qualifier_of, feature_of, segment_of};
 ghost use Rattle.kinds.specs.Order.{order, disorder};
 ghost use Rattle.kinds.specs.Keys.{length_keys};
@@ -32,6 +32,10 @@ pub trait Line: Copy + Default {
 
     ghost keys: { Self → List ℕ };
 
+    // How many lines the group may have at most.
+    fn most() -> usize
+        ensures { result ≡ most_of letter };
+
     // What a line says, by its bytes without the LF, in a sequence of so many bases.
     fn read(bytes: &[u8], bases: u32) -> Result<Self, Reason>
         ensures { result ≡ line_of letter of bases bytes.now };
@@ -55,6 +59,10 @@ impl Line for Length {
 
     ghost keys = { length_keys };
 
+    fn most() -> usize {
+        1
+    }
+
     fn read(bytes: &[u8], _bases: u32) -> Result<Length, Reason> {
         length_of(numbers(bytes, b'L')?).ok_or(Reason::Range)
     }
@@ -70,6 +78,10 @@ impl Line for Point {
     ghost of = { point_of };
 
     ghost keys = { point_keys };
+
+    fn most() -> usize {
+        512
+    }
 
     fn read(bytes: &[u8], _bases: u32) -> Result<Point, Reason> {
         point_of(numbers(bytes, b'P')?).ok_or(Reason::Range)
@@ -87,6 +99,10 @@ impl Line for Rule {
 
     ghost keys = { rule_keys };
 
+    fn most() -> usize {
+        256
+    }
+
     fn read(bytes: &[u8], _bases: u32) -> Result<Rule, Reason> {
         rule_of(numbers(bytes, b'R')?).ok_or(Reason::Range)
     }
@@ -102,6 +118,10 @@ impl Line for Qualifier {
     ghost of = { qualifier_of };
 
     ghost keys = { qualifier_keys };
+
+    fn most() -> usize {
+        256
+    }
 
     fn read(bytes: &[u8], _bases: u32) -> Result<Qualifier, Reason> {
         qualifier_of(numbers(bytes, b'Q')?).ok_or(Reason::Range)
@@ -119,6 +139,10 @@ impl Line for Feature {
 
     ghost keys = { feature_keys };
 
+    fn most() -> usize {
+        1024
+    }
+
     fn read(bytes: &[u8], bases: u32) -> Result<Feature, Reason> {
         feature_of(numbers(bytes, b'F')?, bases).ok_or(Reason::Range)
     }
@@ -134,6 +158,10 @@ impl Line for Segment {
     ghost of = { segment_of };
 
     ghost keys = { segment_keys };
+
+    fn most() -> usize {
+        1024
+    }
 
     fn read(bytes: &[u8], bases: u32) -> Result<Segment, Reason> {
         segment_of(numbers(bytes, b'S')?, bases).ok_or(Reason::Range)

@@ -1,3 +1,4 @@
 pub mod Ranged
 pub mod Outcomes
 mod Examples
+pub mod Refusals

@@ -24,11 +24,13 @@ fn group_at<L: Line, const N: usize>(
     to: usize,
     bases: u32,
 ) -> Result<ArrayVec<Placed<L>, N>, Refusal>
-    requires room { N ≡ most_of L.letter }
+    requires room { most_of L.letter ≤ N }
     requires inside { (from ≤ to) × (to ≤ length bytes.now) × (length bytes.now ≤ 65536) }
     ensures { items_of result ≡ group_at L.letter L.of L.keys bases bytes.now from to }
 {
-    read_group(&bytes[from..to], from, bases)
+    let mut group = ArrayVec::new();
+    read_group(&bytes[from..to], from, bases, &mut group)?;
+    Ok(group)
 }
 
 // The L line's number; 0 where there is no such line.
