@@ -13,7 +13,7 @@ use rows::Row;
 // ---- which segments count
 
 // Whether a segment meets the phase for the target position `t`. The sum with 2 * start stands for the difference.
-fn meets_phase(segment: &Segment, phase: u32, t: u32) -> bool
+pub fn meets_phase(segment: &Segment, phase: u32, t: u32) -> bool
     requires bounded { t ≤ 4000000 }
     requires start_bounded { segment.now.start ≤ 4000000 }
     ensures { result ≡ meets_phase phase t segment.now }
@@ -21,7 +21,8 @@ fn meets_phase(segment: &Segment, phase: u32, t: u32) -> bool
     phase == 3 || (t + 2 * segment.start) % 3 == phase
 }
 
-fn meets_match(segment: &Segment, matching: u32, s: u32, t: u32) -> bool
+// Whether a segment starts at the source `s`, ends at the target `t`, or both, as the match asks.
+pub fn meets_match(segment: &Segment, matching: u32, s: u32, t: u32) -> bool
     ensures { result ≡ meets_match matching s t segment.now }
 {
     let starts = matching == 0 || matching == 2 || segment.start == s;

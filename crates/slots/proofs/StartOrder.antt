@@ -8,7 +8,9 @@ use native.Mathlib.Nat.{eq-or-lt_of_le}
 use native.Mathlib.Omega.{arith}
 use lib.Dec.{leb, ltb}
 use lib.ListN.{length, get_or, take, drop}
-use Rattle.std.specs.List.{AllWithin}
+use Rattle.std.specs.Prelude.{Option, Some, None, MatchOption}
+use Rattle.std.specs.Option.{unwrap_or}
+use Rattle.std.specs.List.{AllWithin, HoldsAt}
 use Rattle.std.specs.List.Sorted.{IsPartitionPoint}
 use Rattle.std.proofs.lemmas.List.{get_or-drop, length-drop}
 use Rattle.std.proofs.lemmas.Bool.Decides.{leb_tells, eqb_tells}
@@ -57,11 +59,29 @@ keep_front test (suc n) (g ∷ l) passes fails =
     (keep_front test n l (λ i d h k. passes (suc i) d (omega arith) (omega arith)) (λ i d h k. fails (suc i) d (omega arith) (omega arith))))
 
 -- ---- the first that does not start before s, and of those from it on the first that starts behind s
+-- behind it all do
+pub record Behind (s : ℕ) (l : List Segment) (count : ℕ) : Type 0 where
+  pub within : count ≤ length l
+  pub by_source : AllWithin (λ g. g.start ≤ s) l 0 count
+  pub behind : AllWithin (λ g. s < g.start) l count (length l)
+
+pub all_behind : (s : ℕ) (l : List Segment) (r : Option ℕ) → Rising l
+    → MatchOption r (AllWithin (λ g. g.start ≤ s) l 0 (length l)) (λ i. (i < length l) × HoldsAt (λ g. s < g.start) l i × AllWithin (λ g. g.start ≤ s) l 0 i)
+    → Behind s l (unwrap_or r (length l))
+all_behind s l None rising m =
+    record { within = omega arith; by_source = m; behind = λ i d h k. absurd (omega arith) }
+all_behind s l (Some count) rising m =
+    record {
+      within = omega (arith, m.0);
+      by_source = m.2;
+      behind = λ i d h k. let a = m.1 d in let b = rising count i d h k in omega arith;
+    }
+
 pub starting_together : (s : ℕ) (l : List Segment) (first count : ℕ)
     → IsPartitionPoint (λ g. ltb g.start s ≡ true) (λ g. ltb g.start s ≡ false) l first
-    → IsPartitionPoint (λ g. leb g.start s ≡ true) (λ g. leb g.start s ≡ false) (drop first l) count
-    → count ≤ length (drop first l) → take count (drop first l) ≡ keep (starts_at s) l
-starting_together s l first count p q n =
+    → Behind s (drop first l) count
+    → take count (drop first l) ≡ keep (starts_at s) l
+starting_together s l first count p q =
     sym (keep_from (starts_at s) first l before ∙ keep_front (starts_at s) count (drop first l) at_source behind)
   where
     before : AllWithin (λ g. starts_at s g ≡ false) l 0 first
@@ -69,9 +89,10 @@ starting_together s l first count p q n =
 
     at_source : AllWithin (λ g. starts_at s g ≡ true) (drop first l) 0 count
     at_source i d h k =
-        let a = q.0 i d h k in
+        let a = q.by_source i d h k in
+        let n = q.within in
         let b = p.1 (first + i) d (omega arith) (omega (arith, length-drop first l)) in
         grind (arith, leb_tells, eqb_tells, get_or-drop first l i d)
 
     behind : AllWithin (λ g. starts_at s g ≡ false) (drop first l) count (length (drop first l))
-    behind i d h k = grind (arith, leb_tells, eqb_tells, q.1 i d h k)
+    behind i d h k = grind (arith, eqb_tells, q.behind i d h k)

@@ -162,7 +162,11 @@ pub fn starting(rows: &[Row], s: u32) -> &[Row]
 {
     let first = rows.partition_point(|row| row.segment.start < s);
     let from_source = &rows[first..];
-    let count = from_source.partition_point(|row| row.segment.start <= s);
+    // One by one and not by halves: whoever asks looks at these few rows anyway.
+    let count = from_source
+        .iter()
+        .position(|row| s < row.segment.start)
+        .unwrap_or(from_source.len());
     &from_source[..count]
 }
 
