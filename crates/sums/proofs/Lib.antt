@@ -4,3 +4,4 @@ mod Spanning
 mod Summing
 mod Walking
 mod Filling
+pub mod Smallness

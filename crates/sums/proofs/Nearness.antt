@@ -2,7 +2,8 @@
 -- once; and those that start behind a base do not matter there but for the first.
 use Rattle.std.proofs.Common.{◌≡◌, refl, sym, ap, ◌∙◌, arith, take-append-drop, get_or-drop, get_or-take, length-take, take_all, append_assoc, length-append, length-drop, leb-false}
 use Rattle.std.proofs.lemmas.List.{take_more}
-use Rattle.std.specs.Prelude.{Bool, true, false, cond, not, ◌&&◌, List, [], ◌∷◌, ◌++◌, ℕ, zero, suc, ◌+◌, ◌-◌, ◌≤◌, ◌<◌, leb, ℤ, pos, Option, Some, None, length, get_or, take, drop, filter, find, IfSome}
+use Rattle.std.specs.Prelude.{Bool, true, false, cond, not, ◌&&◌, ◌||◌, List, [], ◌∷◌, ◌++◌, ℕ, zero, suc, ◌+◌, ◌-◌, ◌≤◌, ◌<◌, leb, ℤ, pos, Option, Some, None, length, get_or, take, drop}
+use Rattle.std.specs.List.Retain.{RetainsInTurn}
 use borrow.Author.Tests.{lt-leb}
 use Rattle.gaze.specs.declared.Segment.{Segment}
 use Rattle.gaze.specs.SegmentScore.{rate, rate_at, largest_rate}
@@ -58,95 +59,41 @@ alike_same x one other h more =
     ∙ sym (largest_is (other ++ more) x))
 
 -- ---- segments that are dropped
-dropped : (x : ℕ) (stays : Segment → Bool) (l : List Segment) → ((g : Segment) → stays g ≡ false → rate_at x g ≡ pos 0)
-    → join (top x (filter stays l)) (Some (pos 0)) ≡ join (top x l) (Some (pos 0))
-dropped x stays [] h = refl
-dropped x stays (g ∷ l) h = go (stays g) refl (dropped x stays l h)
+-- what those that were kept give, where one that ends before `from` is among them
+abbrev met : Bool → Option ℤ
+met true = Some (pos 0)
+met false = None
+
+joined_under : (a b u v : Option ℤ) → join a u ≡ join a v → join a (join b u) ≡ join a (join b v)
+joined_under a b u v e = outward u ∙ (ap (join b) e ∙ sym (outward v))
   where
-    go : (b : Bool) → stays g ≡ b → join (top x (filter stays l)) (Some (pos 0)) ≡ join (top x l) (Some (pos 0))
-        → join (top x (cond b (g ∷ filter stays l) (filter stays l))) (Some (pos 0)) ≡ join (join (Some (rate_at x g)) (top x l)) (Some (pos 0))
-    go true e k =
-        join_regroup (Some (rate_at x g)) (top x (filter stays l)) (Some (pos 0))
-        ∙ (ap (join (Some (rate_at x g))) k ∙ sym (join_regroup (Some (rate_at x g)) (top x l) (Some (pos 0))))
-    go false e k =
-        k
-        ∙ (join_swap (top x l) (Some (pos 0))
-        ∙ (sym (zeroed_first (top x l)).is
-        ∙ ap (λ (r : ℤ). join (join (Some r) (top x l)) (Some (pos 0))) (sym (h g e))))
+    outward : (u : Option ℤ) → join a (join b u) ≡ join b (join a u)
+    outward u = sym (join_regroup a b u) ∙ (ap (λ (c : Option ℤ). join c u) (join_swap a b) ∙ join_regroup b a u)
 
-no_more : (stays : Segment → Bool) (l : List Segment) → length (filter stays l) ≤ length l
-no_more stays [] = omega arith
-no_more stays (g ∷ l) = go (stays g) (no_more stays l)
-  where
-    go : (b : Bool) → length (filter stays l) ≤ length l → length (cond b (g ∷ filter stays l) (filter stays l)) ≤ suc (length l)
-    go true k = omega arith
-    go false k = omega arith
+-- one more is looked at: it is kept, or it gives 0 as one before it
+looked_at : (x : ℕ) (g : Segment) (some all : List Segment) (stays far : Bool) → (stays ≡ false → rate_at x g ≡ pos 0)
+    → join (met (far || not stays)) (top x some) ≡ join (met (far || not stays)) (top x all)
+    → join (met far) (top x (cond (stays || not far) (g ∷ some) some)) ≡ join (met far) (top x (g ∷ all))
+looked_at x g some all true true idle e = joined_under (Some (pos 0)) (Some (rate_at x g)) (top x some) (top x all) e
+looked_at x g some all true false idle e = joined_under None (Some (rate_at x g)) (top x some) (top x all) e
+looked_at x g some all false true idle e = rw (idle refl) (e ∙ join_regroup (Some (pos 0)) (Some (pos 0)) (top x all))
+looked_at x g some all false false idle e = rw (idle refl) e
 
--- one that does not stay
-record Found (stays : Segment → Bool) (l : List Segment) (g : Segment) : Type 0 where
-  pub goes : stays g ≡ false
-  pub fewer : length (filter stays l) < length l
-  pub zeroed : (x : ℕ) → rate_at x g ≡ pos 0 → Zeroed (top x l)
+-- of those that end before `from` the first is kept: `Far` says of a state of the test whether it was met
+module _ {F : Type 0} (R : F → Segment → Bool → F → Segment → Type 0) (Far : F → Bool → Type 0) (from : ℕ)
+    (says : (f : F) (far : Bool) (g : Segment) (stays : Bool) (f' : F) (g' : Segment) → Far f far → R f g stays f' g'
+    → (stays ≡ (leb from g.end || not far)) × (g' ≡ g) × Far f' (far || not (leb from g.end))) where
+  retained : (f : F) (far : Bool) (all some : List Segment) → Far f far → RetainsInTurn R f all some → (x : ℕ) → from ≤ x
+      → join (met far) (top x some) ≡ join (met far) (top x all)
+  retained f far [] some is h x u = rw h refl
+  retained f far (g ∷ all) some is h x u =
+      let said = says f far g h.0 h.1 h.2 is h.3 in
+      rw (h.6, said.0, said.1)
+      (looked_at x g h.4 all (leb from g.end) far (λ e. rate_behind x g (let k = leb-false from g.end e in omega arith))
+      (retained h.1 (far || not (leb from g.end)) all h.4 said.2 h.5 x u))
 
-found : (stays : Segment → Bool) (l : List Segment) (g : Segment) → find (λ f. not (stays f)) l ≡ Some g → Found stays l g
-found stays [] g e = absurd (cc)
-found stays (f ∷ l) g e = go (stays f) refl (found stays l g)
-  where
-    go : (b : Bool) → stays f ≡ b → (find (λ f. not (stays f)) l ≡ Some g → Found stays l g) → Found stays (f ∷ l) g
-    go true k later =
-        let r = later (rw k at e) in
-        record {
-          goes = r.goes;
-          fewer = rw k (omega (arith, r.fewer));
-          zeroed = λ x z. zeroed_more (Some (rate_at x f)) (top x l) (r.zeroed x z);
-        }
-    go false k later =
-        let one : Some f ≡ Some g = rw k at e in
-        let is : f ≡ g = cc in
-        record {
-          goes = rw (← is) k;
-          fewer = rw k (omega (arith, no_more stays l));
-          zeroed = λ x z. rw (is, z) (zeroed_first (top x l));
-        }
-
-none_goes : (stays : Segment → Bool) (l : List Segment) → find (λ f. not (stays f)) l ≡ None → filter stays l ≡ l
-none_goes stays [] e = refl
-none_goes stays (f ∷ l) e = go (stays f) refl (none_goes stays l)
-  where
-    go : (b : Bool) → stays f ≡ b → (find (λ f. not (stays f)) l ≡ None → filter stays l ≡ l) → cond b (f ∷ filter stays l) (filter stays l) ≡ f ∷ l
-    go true k later = ap (λ (m : List Segment). f ∷ m) (later (rw k at e))
-    go false k later = let never : Some f ≡ None = rw k at e in absurd (cc)
-
--- those that end before `from` are dropped but for one
-module _ (from : ℕ) (all kept : List Segment) (is : kept ≡ filter (λ f. leb from f.end) all) where
-  pub near_all : find (λ f. not (leb from f.end)) all ≡ None → Near from all kept
-  near_all none = rw (is, none_goes (λ f. leb from f.end) all none) (record { few = omega arith; alike = λ x u more. refl })
-
-  module _ (g : Segment) (first : find (λ f. not (leb from f.end)) all ≡ Some g) where
-    close_room : length kept < length all
-    close_room = rw is (found (λ f. leb from f.end) all g first).fewer
-
-    pub near_closed : (some : List Segment) → some ≡ kept ++ (g ∷ []) → Near from all some
-    near_closed some e =
-        rw e
-        (record { few = simp length-append (omega (arith, close_room)); alike = λ x u. alike_same x (kept ++ (g ∷ [])) all (rw is (same x u)) })
-      where
-        gives_none : (x : ℕ) (f : Segment) → from ≤ x → leb from f.end ≡ false → rate_at x f ≡ pos 0
-        gives_none x f u e = rate_behind x f (let k = leb-false from f.end e in omega arith)
-
-        same : (x : ℕ) → from ≤ x → top x (filter (λ f. leb from f.end) all ++ (g ∷ [])) ≡ top x all
-        same x u =
-            let one = found (λ f. leb from f.end) all g first in
-            let e : rate_at x g ≡ pos 0 = gives_none x g u one.goes in
-            top_joined x (filter (λ f. leb from f.end) all) (g ∷ [])
-            ∙ (ap (λ (r : ℤ). join (top x (filter (λ f. leb from f.end) all)) (Some r)) e
-            ∙ (dropped x (λ f. leb from f.end) all (λ f k. gives_none x f u k)
-            ∙ (one.zeroed x e).is))
-
-pub room_left : (from : ℕ) (all kept : List Segment) → kept ≡ filter (λ f. leb from f.end) all → length all ≤ 1024
-    → (r : Option Segment) → r ≡ find (λ f. not (leb from f.end)) all → IfSome r (λ g. length kept < 1024)
-room_left from all kept is h None e = tt
-room_left from all kept is h (Some g) e = omega (arith, close_room from all kept is g (sym e))
+  pub near_retained : (f : F) (all some : List Segment) → Far f false → RetainsInTurn R f all some → length some ≤ length all → Near from all some
+  near_retained f all some is h few = record { few = few; alike = λ x u. alike_same x some all (retained f false all some is h x u) }
 
 -- ---- segments that are opened
 -- the first of those that start behind a base is as good as all

@@ -3,10 +3,10 @@
 
 #![tactic(auto)]
 
-ghost use Rattle.std.specs.Prelude.{◌≡◌, false, ◌<◌, ◌≤◌, length, replicate};
+ghost use Rattle.std.specs.Prelude.{◌≡◌, false, ℕ, ◌<◌, ◌≤◌, length, get_or, replicate};
 ghost use Rattle.slots.specs.Slots.{Rising};
 ghost use Rattle.sums.specs.Sums.{Places, pair_score};
-ghost use Rattle.sums.specs.Table.{Filled, FilledRow};
+ghost use Rattle.sums.specs.Table.{nothing, Filled, FilledRow, Kept, sum_between};
 
 mod plateau;
 mod walk;
@@ -29,19 +29,22 @@ pub struct Sum {
 pub type Table = [[Sum; 1026]; 64];
 
 // A table with nothing in it. The caller lends it, since it is too large to be copied.
-pub fn empty_table() -> Table {
+pub fn empty_table() -> Table
+    ensures { result ≡ replicate 64 (replicate 1026 nothing) }
+{
     [[Sum {
         before: 0,
         along: 0,
     }; 1026]; 64]
 }
 
-// For each candidate the sums of the largest rates up to its position, without it and with it.
+// For each candidate the sums of the largest rates up to its position, without it and with it. What stands behind them stays.
 fn fill_row(rows: &[Row], candidates: &[Feature], row: &mut [Sum; 1026])
     requires rising { Rising rows.now }
     requires few { length rows.now ≤ 1024 }
     requires places { Places candidates.now }
-    ensures { FilledRow rows.now candidates.now row.new }
+    ensures filled { FilledRow rows.now candidates.now row.new }
+    ensures kept { (i : ℕ) → length candidates.now ≤ i → get_or row.new i nothing ≡ get_or row.old i nothing }
 {
     let mut walk = Walk::over(rows);
     for (i, candidate) in candidates.iter().enumerate() {
@@ -54,10 +57,11 @@ fn fill_row(rows: &[Row], candidates: &[Feature], row: &mut [Sum; 1026])
     }
 }
 
-// Fills the rows of the slots that are summed up.
+// Fills the rows of the slots that are summed up, and leaves the rest as it was.
 pub fn fill_table(slots: &Slots, candidates: &[Feature], summed: &[bool; 64], table: &mut Table)
     requires { Places candidates.now }
-    ensures { Filled summed.now slots.now candidates.now table.new }
+    ensures filled { Filled summed.now slots.now candidates.now table.new }
+    ensures kept { Kept summed.now candidates.now table.old table.new }
 {
     for (slot, row) in table.iter_mut().enumerate() {
         if summed[slot] {
@@ -119,12 +123,14 @@ impl<'a> RunningSums<'a> {
         }
     }
 
-    // The score by method 2 of a slot's segments over the region from candidate `i` to candidate `j`, where the slot is summed up.
+    // What a slot's sum along with candidate `j` has more than that before candidate `i`, where the slot is summed up: of two in their order it is the score by
+    // method 2 of the slot's segments over the region between them.
     pub fn pair_score(&self, slot: usize, i: usize, j: usize) -> Option<i64>
         requires slot_low { slot < 64 }
-        requires ordered { i ≤ j }
-        requires within { j < length self.now.candidates }
-        ensures { result ≡ pair_score self.now slot i j }
+        requires i_low { i < length self.now.candidates }
+        requires j_low { j < length self.now.candidates }
+        ensures difference { result ≡ sum_between self.now slot i j }
+        ensures score { i ≤ j → result ≡ pair_score self.now slot i j }
     {
         if !self.summed[slot] {
             return None;

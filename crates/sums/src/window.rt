@@ -1,6 +1,6 @@
 // The rows that are open at a base. A walk looks at these alone, so it is fast however many rows there are.
 
-ghost use Rattle.std.specs.Prelude.{◌≡◌, ◌<◌, ◌≤◌, [], length, find, filter, leb, not, IfSome};
+ghost use Rattle.std.specs.Prelude.{◌≡◌, ◌<◌, ◌≤◌, [], length, leb};
 ghost use Rattle.slots.specs.Slots.{Rising};
 ghost use Rattle.sums.specs.Window.{Near, Opened};
 
@@ -22,32 +22,17 @@ fn lasts(row: &Row, from: u32) -> bool
     from <= row.segment.end
 }
 
-// The first of the rows that end before `from`.
-fn first_ended(rows: &[Row], from: u32) -> Option<Row>
-    ensures { result ≡ find (λ g. not (leb from g.end)) rows.now }
-{
-    rows.iter().copied().find(|row| !lasts(row, from))
-}
-
-// Drops the rows that end before `from`, and gives the first of them.
-fn drop_ended(rows: &mut ArrayVec<Row, 1024>, from: u32) -> Option<Row>
-    ensures rest { rows.new.items ≡ filter (λ g. leb from g.end) rows.old.items }
-    ensures first { result ≡ find (λ g. not (leb from g.end)) rows.old.items }
-    ensures room { IfSome result (λ g. length rows.new.items < 1024) }
-{
-    let first = first_ended(rows.as_slice(), from);
-    rows.retain(|row| lasts(row, from));
-    first
-}
-
 // Of the rows that end before `from` only the first is kept: each gives 0 from there on.
 fn close_rows(rows: &mut ArrayVec<Row, 1024>, from: u32)
     ensures { Near from rows.old.items rows.new.items }
 {
-    let Some(ended) = drop_ended(rows, from) else {
-        return;
-    };
-    rows.push(ended);
+    let mut far = false;
+    rows.retain(|row| {
+        let on = lasts(row, from);
+        let keeps = on || !far;
+        far = far || !on;
+        keeps
+    });
 }
 
 impl Window {

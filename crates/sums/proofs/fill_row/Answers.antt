@@ -1,4 +1,4 @@
-use Rattle.std.proofs.Common.{◌≡◌, ◌∙◌, ap, ◌<◌, arith, length, get_or, length-set}
+use Rattle.std.proofs.Common.{◌≡◌, ◌∙◌, ap, ◌<◌, arith, length, get_or, length-set, get_or-set_other}
 use Rattle.std.proofs.lemmas.List.{get_or_default}
 use Rattle.std.specs.Prelude.{pos}
 use Rattle.whole.proofs.Bits.{back}
@@ -35,4 +35,5 @@ loop-i-preserved c =
             along_small = omega (arith, e.ensures.small, p, high);
           }))
           l.invariant.filled;
+      kept = λ j h. get_or-set_other l.row l.i j _ nothing (λ e. omega arith) ∙ l.invariant.kept j h;
     }
