@@ -7,9 +7,8 @@ use Rattle.whole.proofs.Bits.{small_back}
 use Rattle.gaze.specs.Chain.{Steps, Valid}
 use Rattle.gaze.proofs.Table.{Traced, solved, traced_is, filled_none, filled_best, filled_total}
 use Rattle.chains.specs.declared.Reached.{Reached}
-use Rattle.chains.specs.Tables.{total_of, table, Searched}
+use Rattle.chains.specs.Tables.{total_of, table, Searched, way_back}
 use Rattle.chains.specs.Answer.{BestWritten}
-use Rattle.chains.specs.Within.{way_back}
 
 module _ {m : Steps} {entries : List (Option Reached)} (s : Searched m entries) {e : ℕ} (within : e < length entries) where
   pub none_found : get_or entries e None ≡ None → (c : List ℕ) → Valid m e c → ⊥

@@ -1,13 +1,22 @@
 -- A look at one source takes the choice among the earlier ones to the choice with that one among them.
-use Rattle.std.proofs.Common.{◌≡◌, ℕ, suc, ◌+◌, List, length, get_or, refl, add-one, Option, Some, None}
+use Rattle.std.proofs.Common.{◌≡◌, ℕ, suc, ◌+◌, ◌^◌, ◌≤◌, List, length, get_or, refl, add-one, arith, Option, Some, None}
 use Prim.Native.Nat.{zero-le}
-use Rattle.std.specs.Prelude.{Bool, true, false, cond, T, ℤ, ◌+ℤ◌, ◌≤ℤ◌}
+use Rattle.std.specs.Prelude.{Bool, true, false, cond, T, ℤ, ◌+ℤ◌, ◌≤ℤ◌, nat_abs}
 use Rattle.std.specs.Int.Signed.{lt_z}
 use lib.Signed.{lt_z_yes, lt_z_no}
+use mir.Syntax.{w64}
+use mir.Val.{SFits, to_z, of_z}
+use Rattle.whole.proofs.Size.{abs_sum}
+use Rattle.whole.proofs.Bits.{small_fits, small_back}
 use Rattle.gaze.proofs.Picked.{pick_skip, pick_keep, pick_take}
 use Rattle.chains.specs.declared.Reached.{Reached}
 use Rattle.chains.specs.Tables.{is_reached, total_of, table}
 use Rattle.chains.specs.Within.{row_steps, considered, better, Chosen}
+
+-- two read-back numbers that are small have a sum that fits
+pub sum_fits : (a b : ℤ) → nat_abs a ≤ 2 ^ 61 → nat_abs b ≤ 2 ^ 61 → SFits w64 (to_z w64 (of_z w64 a) +ℤ to_z w64 (of_z w64 b))
+sum_fits a b x y =
+    rw (small_back a (2 ^ 61) x (omega arith), small_back b (2 ^ 61) y (omega arith)) (small_fits (a +ℤ b) (2 ^ 62) (omega (arith, abs_sum a b)) (omega arith))
 
 module _ (steps : List (Option ℤ)) (entries : List (Option Reached)) (i : ℕ) where
   abbrev After : Option Reached → Type 0

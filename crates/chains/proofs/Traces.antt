@@ -6,8 +6,7 @@ use lib.Seq.{length-take-le}
 use Rattle.std.proofs.Math.ListN.{length-set}
 use Rattle.gaze.proofs.Table.{Traced, at_begin, came, traced_is}
 use Rattle.chains.specs.declared.Reached.{Reached}
-use Rattle.chains.specs.Tables.{source_of, table}
-use Rattle.chains.specs.Within.{way_back}
+use Rattle.chains.specs.Tables.{source_of, table, way_back}
 
 -- The candidates passed stand at the front of the buffer, the last one first, and the way goes on from here.
 pub record Walking (entries : List (Option Reached)) (e : ℕ) (chain₀ chain : List ℕ) (count place : ℕ) : Type 0 where

@@ -1,10 +1,9 @@
 -- What the private functions ask of each other and give; no public clause speaks of it.
-use Rattle.std.specs.Prelude.{cond, List, ℕ, ◌<◌, ◌≤◌, ◌^◌, ℤ, pos, nat_abs, ◌+ℤ◌, length, get_or, Option, Some, None}
+use Rattle.std.specs.Prelude.{cond, List, ℕ, ◌<◌, ◌^◌, ℤ, pos, nat_abs, ◌+ℤ◌, length, get_or, Option, Some, None}
 use Rattle.std.specs.Int.Signed.{lt_z}
 use Rattle.std.specs.Option.{is_some, unwrap_or}
 use Rattle.gaze.specs.Chain.{Steps}
 use Rattle.gaze.proofs.Picked.{Picked}
-use Rattle.gaze.proofs.Table.{Traced, trace_back}
 use Rattle.chains.specs.declared.Reached.{Reached}
 use Rattle.chains.specs.Tables.{is_reached, total_of, source_of, table}
 
@@ -32,14 +31,3 @@ abbrev pub Chosen : List (Option ℤ) → List (Option Reached) → ℕ → Opti
 Chosen steps entries i choice =
     let t = table entries in
     Picked (row_steps steps) t.reach t.value (length entries) 0 i (is_reached choice) (total_of choice) (source_of choice)
-
--- The candidates from e back to 0, by their sources.
-abbrev pub way_back : List (Option Reached) → ℕ → List ℕ
-way_back entries e = trace_back (table entries).from e e
-
--- The sources lead from e back to 0, and the candidates on the way fit the buffer.
-pub record Leading (entries : List (Option Reached)) (e room : ℕ) : Type 0 where
-  pub leads : Traced (table entries).from e (way_back entries e)
-  pub within : e < length entries
-  pub few : length entries ≤ 1026
-  pub fits : e < room

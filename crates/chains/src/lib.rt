@@ -8,8 +8,8 @@ ghost use Rattle.arrayvec.specs.ArrayVec.{array_vec_len};
 ghost use Rattle.std.specs.List.Sorted.{IsStrictlyIncreasing};
 ghost use Rattle.gaze.specs.Chain.{Steps, Chain};
 ghost use Rattle.chains.specs.Answer.{Finished, Answers};
-ghost use Rattle.chains.specs.Tables.{source_of, Row, Searched, Going};
-ghost use Rattle.chains.specs.Within.{SumFits, considered, Chosen, way_back, Leading};
+ghost use Rattle.chains.specs.Tables.{source_of, Row, Searched, Going, way_back, Leading};
+ghost use Rattle.chains.specs.Within.{SumFits, considered, Chosen};
 
 use arrayvec::ArrayVec;
 
@@ -88,7 +88,7 @@ fn source(entries: &[Option<Reached>], place: usize) -> usize
 }
 
 // Writes the chain that ends at `last` into the front of `chain`, and returns its length.
-fn trace(entries: &[Option<Reached>], last: usize, chain: &mut [u32]) -> usize
+pub fn trace(entries: &[Option<Reached>], last: usize, chain: &mut [u32]) -> usize
     requires { Leading entries.now last (length chain.old) }
     ensures counted { result ≡ length (way_back entries.now last) }
     ensures written { chain.new ≡ reverse (way_back entries.now last) ++ drop result chain.old }

@@ -6,7 +6,8 @@ use Prim.Native.Nat.{ℕ, suc, ◌-◌, ◌^◌, ◌≤◌, ◌<◌}
 use native.Mathlib.Omega.{arith}
 use lib.Dec.{T}
 use lib.IntN.{ℤ, nat_abs}
-use lib.ListN.{length}
+use lib.ListN.{length, take}
+use lib.Seq.{length-take-le}
 use Rattle.std.specs.Prelude.{Option, None, Some, IfSome}
 use Rattle.gaze.specs.declared.Feature.{Feature}
 use Rattle.gaze.specs.Chain.{Chain}
@@ -32,6 +33,13 @@ module _ {sheet : Sheet} (r : InRange sheet) {listed : List Feature} (held : lis
   pub no_chain : {b : Bool} {c : List ℕ} → (T (not b) → Chain (length listed - 1) c → ⊥) → b ≡ false → Chain (end_number sheet) c → ⊥
   no_chain {b} {c} complete n p = complete (subst (λ (b : Bool). T (not b)) (sym n) tt) (rw last_listed p)
 
+  -- the front of 1026 places that is lent for the row of a target
+  pub row_long : (places row : List (Option ℤ)) {t : ℕ} → length places ≡ 1026 → t < length listed → length row ≡ length (take t places) → t ≤ length row
+  row_long places row {t} all_places h same =
+      let all = all_listed in
+      let front : length (take t places) ≡ t = length-take-le t places (omega (arith, r.features.few)) in
+      omega arith
+
   step_small : (s t : ℕ) → IfSome (step (steps sheet) s t) (λ z. nat_abs z ≤ 2 ^ 50)
   step_small s t = by_test (legal sheet s t)
     where
@@ -40,16 +48,15 @@ module _ {sheet : Sheet} (r : InRange sheet) {listed : List Feature} (held : lis
       by_test false = tt
 
   module _ {entries : List (Option Reached)} {t : ℕ} (filled : length entries ≡ t) (searched : Searched (steps sheet) entries) (from_one : 1 ≤ t) where
-    pub going : {row : List (Option ℤ)} → Row (steps sheet) t row → t < length listed → Going row entries
-    going {row} steps_are h =
+    pub going : {row : List (Option ℤ)} → t ≤ length row → Row (steps sheet) t row → t < length listed → Going row entries
+    going {row} long steps_are h =
         let all = all_listed in
         record {
-          model = steps sheet;
-          row = rw filled steps_are;
-          searched = searched;
+          long = omega arith;
           some = omega arith;
           few = omega (arith, r.features.few);
           gain_size = λ s lt. rw (steps_are.is s (omega arith)) (step_small s t);
+          total_size = searched.total_size;
         }
 
 -- all entries are filled in

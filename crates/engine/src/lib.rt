@@ -45,7 +45,7 @@ fn search(prepared: &Prepared) -> Entries
     let mut entries = chains::begin();
     for target in 1..candidates.len() {
         let row = &mut steps[..target];
-        step::steps_into(prepared, &sums, &mut narrowed, target, row);
+        step::steps_into(prepared, &sums, &mut narrowed, target, 0, row);
         chains::settle(row, &mut entries);
     }
     entries

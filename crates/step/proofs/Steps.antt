@@ -2,15 +2,11 @@
 use mathlib.Core.Path.{◌≡◌, refl, sym, ap, ap₂, ◌∙◌}
 use mathlib.Core.Bool.{Bool, true, false, cond}
 use mathlib.Core.List.{List}
-use Prim.Native.Nat.{ℕ, ◌-◌, ◌^◌, ◌≤◌, ◌<◌}
+use Prim.Native.Nat.{ℕ, ◌-◌, ◌≤◌, ◌<◌}
 use native.Mathlib.Omega.{arith}
 use lib.IntN.{ℤ, pos, nat_abs, ◌+ℤ◌, ◌-ℤ◌}
 use lib.ListN.{get_or}
-use mir.Syntax.{w64}
-use mir.Val.{SFits}
 use Rattle.std.specs.Prelude.{Option, None, Some}
-use Rattle.whole.proofs.Bits.{small_fits}
-use Rattle.whole.proofs.Size.{abs_sum, abs_dif}
 use Rattle.gaze.specs.declared.Feature.{Feature}
 use Rattle.gaze.specs.declared.Point.{Point}
 use Rattle.gaze.specs.declared.Rule.{Rule}
@@ -62,11 +58,8 @@ module _ {a : Inside} (h : IsAimed a) (s : ℕ) (before : s < a.number) {f : Fea
   pub score_small : nat_abs a.feature.score ≤ 10000000
   score_small = rw h.feature (placed a.evidence.sheet.now h.held.ranged a.number).score
 
-  pub charge_fits : (region cost : ℤ) {charged : ℤ} → nat_abs region ≤ 640000000000000 → nat_abs cost ≤ 80000010000000 → charged ≡ region -ℤ cost → SFits w64 (charged +ℤ a.feature.score)
-  charge_fits region cost {charged} l k e =
-      small_fits (charged +ℤ a.feature.score) (2 ^ 50)
-      (rw e (omega (arith, abs_sum (region -ℤ cost) a.feature.score, abs_dif region cost, score_small)))
-      (omega arith)
+  pub source_from_one : 1 ≤ f.position
+  source_from_one = rw from_is (placed a.evidence.sheet.now h.held.ranged s).position.0
 
   rule_found : {rule : Option Rule} → rule ≡ first_of (of_types f.kind a.feature.kind) a.rules.now
       → rule ≡ rule_of a.evidence.sheet.now.rules (candidate a.evidence.sheet.now s) (candidate a.evidence.sheet.now a.number)

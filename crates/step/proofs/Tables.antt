@@ -1,13 +1,14 @@
 -- What the tables of a sheet hold, beside the sheet's own lines: the longest sequence for the sheet's, marks, and slots that are narrowed.
 use mathlib.Core.Path.{◌≡◌, refl, sym, ap, subst}
 use mathlib.Core.Logic.{⊎_elim}
-use mathlib.Core.Bool.{Bool, false}
+use mathlib.Core.Bool.{Bool, false, ◌&&◌}
 use mathlib.Core.List.{List}
 use Prim.Native.Nat.{ℕ, suc, ◌+◌, ◌≤◌, ◌<◌}
 use native.Mathlib.Nat.{eq-or-lt_of_le}
 use native.Mathlib.Omega.{arith}
-use lib.Dec.{T, leb, le→leb}
+use lib.Dec.{T, eqb, leb, le→leb}
 use lib.ListN.{length, get_or}
+use Rattle.std.proofs.lemmas.Bool.{false≢true}
 use Rattle.std.proofs.lemmas.List.{get_or_default}
 use Rattle.gaze.specs.declared.Feature.{Feature}
 use Rattle.gaze.specs.declared.Qualifier.{Qualifier}
@@ -94,3 +95,6 @@ one_line_more P l i e within before here k d h =
 
 pub not_asked : {m n : ℕ} → false ≡ leb 2 m → m ≡ n → 2 ≤ n → ⊥
 not_asked {m} {n} e k h = subst T (sym e) (le→leb 2 m (omega arith))
+
+pub not_summed : {m n : ℕ} → false ≡ (eqb m 2 && eqb n 0) → m ≡ 2 → n ≡ 0 → ⊥
+not_summed e k h = false≢true (rw (k, h) at e)

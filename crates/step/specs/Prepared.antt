@@ -15,3 +15,4 @@ pub record IsPrepared (p : Inside) : Type 0 where
   pub lines : p.lines ≡ p.sheet.now.qualifiers
   pub slots : p.slots ≡ slots_of p.sheet.now.segments
   pub narrowed : Each (λ q. 2 ≤ q.matching → SlotsMarked p.narrowed q) p.sheet.now.qualifiers
+  pub summed : Each (λ q. q.method ≡ 2 → q.matching ≡ 0 → SlotsMarked p.summed q) p.sheet.now.qualifiers

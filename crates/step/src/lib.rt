@@ -5,10 +5,10 @@
 mod aim;
 mod prepared;
 
-ghost use Rattle.std.specs.Prelude.{◌≡◌, ◌<◌, ◌≤◌, length};
+ghost use Rattle.std.specs.Prelude.{◌≡◌, ◌+◌, ◌<◌, ◌≤◌, ℕ, length, get_or};
 ghost use Rattle.gaze.specs.Sheet.{end_number};
 ghost use Rattle.gaze.specs.Step.{steps};
-ghost use Rattle.chains.specs.Tables.{Row, step};
+ghost use Rattle.chains.specs.Tables.{step};
 ghost use Rattle.step.specs.Steps.{SumsOf};
 
 use aim::Target;
@@ -33,22 +33,23 @@ pub fn step_between(
     Target::at(prepared, sums, narrowed, target).step_from(source)
 }
 
-// The same for each source before a target.
+// The same for the sources from `first` on, as many as the row has places for.
 pub fn steps_into(
     prepared: &Prepared,
     sums: &RunningSums,
     narrowed: &mut Slots,
     target: usize,
+    first: usize,
     row: &mut [Option<i64>],
 )
     requires summing { SumsOf prepared.now sums.now }
     requires to_end { target ≤ end_number prepared.now }
-    requires long { length row.old ≡ target }
-    ensures { Row (steps prepared.now) target row.new }
+    requires before_target { first + length row.old ≤ target }
+    ensures { (i : ℕ) → i < length row.new → get_or row.new i None ≡ step (steps prepared.now) (first + i) target }
 {
     prepared.narrow_to(target, narrowed);
     let into = Target::at(prepared, sums, narrowed, target);
-    for (source, step) in row.iter_mut().enumerate() {
-        *step = into.step_from(source);
+    for (place, step) in row.iter_mut().enumerate() {
+        *step = into.step_from(first + place);
     }
 }

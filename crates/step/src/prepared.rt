@@ -93,8 +93,10 @@ impl<'a> Prepared<'a> {
         &self.slots
     }
 
-    // The slots that are summed up: which they are changes no score.
-    pub fn summed(&self) -> [bool; 64] {
+    // The slots that are summed up, among them all that the Q lines with method 2 and match 0 ask for. Which they are changes no score.
+    pub fn summed(&self) -> [bool; 64]
+        ensures { Each (λ q. q.method ≡ 2 → q.matching ≡ 0 → SlotsMarked result q) self.now.qualifiers }
+    {
         self.summed
     }
 

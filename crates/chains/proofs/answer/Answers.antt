@@ -12,8 +12,9 @@ pub trace-count-requires : goal.trace-count-requires
 trace-count-requires c =
     let p = c.requires in
     let some = p.finished.some in
+    let few = p.finished.few in
     let room = p.room in
-    record { leads = way_leads p.finished.searched (omega arith) c.in_ok-reached.was; within = omega arith; few = p.finished.few; fits = omega arith }
+    record { leads = way_leads p.finished.searched (omega arith) c.in_ok-reached.was; within = omega arith; fits = omega arith; small = omega arith }
 
 pub returns : goal.returns
 returns c =

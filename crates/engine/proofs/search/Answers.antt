@@ -1,7 +1,7 @@
 use Rattle.std.proofs.Common.{◌≡◌, ◌≤◌, ◌∙◌, ap, arith, ℕ, ◌+◌}
 use Rattle.gaze.specs.Step.{steps}
-use Rattle.chains.specs.Tables.{Row}
-use Rattle.engine.proofs.Searching.{all_listed, going}
+use Rattle.step.proofs.Rows.{whole_row}
+use Rattle.engine.proofs.Searching.{all_listed, row_long, going}
 use Rattle.engine.proofs.search.Goals as goal
 
 pub loop-target-init : goal.loop-target-init
@@ -14,14 +14,20 @@ steps_into-requires-clause-to_end c =
 
 pub settle-requires : goal.settle-requires
 settle-requires c =
+    let long = row_long c.requires c.candidates-candidates.ensures.value c.loop-target.steps c.steps_into.new.row
+    c.loop-target-test.array_long c.loop-target-test.true
+    c.steps_into.auto.row in
     going c.requires c.candidates-candidates.ensures.value c.loop-target.invariant.0 c.loop-target.invariant.1 c.loop-target.auto.target
-    c.steps_into.ensures c.loop-target-test.true
+    long (whole_row long c.steps_into.ensures) c.loop-target-test.true
 
 pub loop-target-preserved : goal.loop-target-preserved
-loop-target-preserved c = (
-  c.settle.ensures.length ∙ ap (λ (n : ℕ). n + 1) c.loop-target.invariant.0,
-  c.settle.ensures.searched (steps c.args.prepared.now) (rw c.loop-target.invariant.0 c.steps_into.ensures) c.loop-target.invariant.1,
-)
+loop-target-preserved c =
+    let long = row_long c.requires c.candidates-candidates.ensures.value c.loop-target.steps c.steps_into.new.row
+    c.loop-target-test.array_long c.loop-target-test.true
+    c.steps_into.auto.row in (
+      c.settle.ensures.length ∙ ap (λ (n : ℕ). n + 1) c.loop-target.invariant.0,
+      c.settle.ensures.searched (steps c.args.prepared.now) (rw c.loop-target.invariant.0 (whole_row long c.steps_into.ensures)) c.loop-target.invariant.1,
+    )
 
 -- the loop ends at the number of candidates
 ended : {t n : ℕ} → n ≤ t → (1 ≤ n → t ≤ n) → 1 ≤ n → n ≡ t

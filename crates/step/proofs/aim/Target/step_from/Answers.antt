@@ -1,7 +1,8 @@
-use Rattle.std.proofs.Common.{◌<◌, ◌∙◌, arith}
-use Rattle.whole.proofs.Bits.{back, small_back}
+use Rattle.std.proofs.Common.{◌^◌, ◌<◌, ◌∙◌, arith}
+use Rattle.whole.proofs.Bits.{back, small_back, small_fits}
+use Rattle.whole.proofs.Size.{abs_sum, abs_dif}
 use Rattle.regions.proofs.Held.{held_within}
-use Rattle.step.proofs.Steps.{source_kind, target_kind, target_within, meets_rises, step_rises, score_small, charge_fits, no_rule, not_met, is_met}
+use Rattle.step.proofs.Steps.{source_kind, target_kind, target_within, meets_rises, step_rises, source_from_one, score_small, no_rule, not_met, is_met}
 use Rattle.step.proofs.aim.Target.step_from.Goals as goal
 
 pub candidate-from-requires : goal.candidate-from-requires
@@ -33,15 +34,28 @@ returns-then-not-meets c =
     c.if-not-meets.true)
 
 pub overflow_sub-self-inside : goal.overflow_sub-self-inside
-overflow_sub-self-inside c = step_rises c.self.invariant c.args.source (rw (← c.self.view_is) at c.requires) c.candidate-from.ensures
+overflow_sub-self-inside c =
+    let before : c.args.source < c.self.inside.number = rw (← c.self.view_is) at c.requires in
+    let rises = step_rises c.self.invariant c.args.source before c.candidate-from.ensures in
+    let from_one = source_from_one c.self.invariant c.args.source before c.candidate-from.ensures in
+    omega arith
+
+pub minus-requires : goal.minus-requires
+minus-requires c =
+    let own = score_small c.self.invariant c.args.source (rw (← c.self.view_is) at c.requires) c.candidate-from.ensures in
+    let region = c.region_score-region in
+    let penalty = c.penalty_at-penalty in
+    simp (back region.result region.type_inv, back penalty.result penalty.type_inv, small_back c.self.inside.feature.score 10000000 own (omega arith))
+    (small_fits _ (2 ^ 50) (omega (arith, abs_dif, region.ensures.small, penalty.ensures.small, own)) (omega arith))
 
 pub plus-requires : goal.plus-requires
 plus-requires c =
-    let before : c.args.source < c.self.inside.number = rw (← c.self.view_is) at c.requires in
-    let own = score_small c.self.invariant c.args.source before c.candidate-from.ensures in
-    rw (back c.minus.result c.minus.type_inv, small_back c.self.inside.feature.score 10000000 own (omega arith))
-    (charge_fits c.self.invariant c.args.source before c.candidate-from.ensures c.region_score-region.result c.penalty_at-penalty.result c.region_score-region.ensures.small c.penalty_at-penalty.ensures.small
-    (rw (back c.region_score-region.result c.region_score-region.type_inv, back c.penalty_at-penalty.result c.penalty_at-penalty.type_inv) at c.minus.ensures))
+    let own = score_small c.self.invariant c.args.source (rw (← c.self.view_is) at c.requires) c.candidate-from.ensures in
+    let region = c.region_score-region in
+    let penalty = c.penalty_at-penalty in
+    rw (back c.minus.result c.minus.type_inv)
+    (simp (c.minus.ensures, back region.result region.type_inv, back penalty.result penalty.type_inv, small_back c.self.inside.feature.score 10000000 own (omega arith))
+    (small_fits _ (2 ^ 50) (omega (arith, abs_sum, abs_dif, region.ensures.small, penalty.ensures.small, own)) (omega arith)))
 
 pub returns : goal.returns
 returns c =
