@@ -2,13 +2,12 @@
 
 #![tactic(auto)]
 
-use report::Report;
 use std::io;
 
 fn main(rt: HostRuntime) -> io::Result<()> {
     let mut bytes = report::sheet_room();
     let size = report::read_full(&mut rt.reader(), &mut bytes)?;
-    let mut report = Report::new();
-    report::write_report(&mut report, &bytes[..size])?;
-    rt.write_all(report.as_slice())
+    let mut out = report::report_room();
+    let end = report::push_report(&mut out, 0, &bytes[..size]);
+    rt.write_all(&out[..end])
 }

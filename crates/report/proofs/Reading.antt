@@ -1,5 +1,5 @@
 -- What a read of n bytes behind `at` others leaves in the front of a buffer, and takes from the reader.
-use Rattle.std.proofs.Common.{◌≡◌, ℕ, ◌+◌, ◌≤◌, List, ◌++◌, Option, None, Some, length, take, ap, ap₂, sym, subst, ◌∙◌, append_assoc, le_refl, drop_at, length-take-le}
+use Rattle.std.proofs.Common.{◌≡◌, ℕ, ◌+◌, ◌≤◌, List, ◌++◌, Option, None, Some, length, take, drop, ap, ap₂, sym, subst, ◌∙◌, append_assoc, le_refl, drop_at, length-take-le}
 use Rattle.std.proofs.lemmas.Slice.{take-put_mid_below}
 use Rattle.std.specs.Io.KnownBytes.{Consumes}
 use borrow.Rule.Slice.PartMut.{put_mid, post_of}
@@ -22,3 +22,7 @@ pub more_taken : (a b c : Option (List ℕ)) (at n k : ℕ) (xs ys : List ℕ) �
     → Consumes a c (take (at + n) (put_mid at k xs ys))
 more_taken a b c at n k xs ys within fits before read =
     subst (Consumes a c) (sym (filled at n k xs ys within fits)) (both a b c (take at xs) (take n ys) before read)
+
+-- what a write of n bytes behind `at` others leaves behind them
+pub behind : (at n k : ℕ) (xs ys : List ℕ) → at ≤ length xs → n ≤ length ys → drop at (take (at + n) (put_mid at k xs ys)) ≡ take n ys
+behind at n k xs ys within fits = ap (drop at) (filled at n k xs ys within fits) ∙ drop_at (take at xs) (take n ys) at (length-take-le at xs within)

@@ -2,11 +2,12 @@
 
 #![tactic(auto)]
 
-ghost use Rattle.std.specs.Prelude.{◌≡◌, ◌≤◌, ◌<◌, length, take, IfOk};
-ghost use Rattle.std.specs.Io.KnownBytes.{Consumes, IsAtEnd};
+ghost use Rattle.std.specs.Prelude.{◌≡◌, ℕ, ◌-◌, ◌≤◌, ◌<◌, List, length, take, drop, IfOk, OnOk};
+ghost use Rattle.std.specs.Io.KnownBytes.{Consumes, Appends, IsAtEnd};
 ghost use Rattle.io.specs.Counts.{IsPrefixLen};
 
 use arrayvec::ArrayVec;
+use liivokarp::Reply;
 use std::io;
 use std::io::{ErrorKind, Read, Write};
 
@@ -57,8 +58,58 @@ pub fn read_full<R: Read>(reader: &mut R, bytes: &mut [u8]) -> io::Result<usize>
 // A reply has at most 84 bytes, and each of the 1,026 lines that may stand under it at most 33.
 pub type Report = ArrayVec<u8, 33942>;
 
+pub fn report_room() -> [u8; 33942] {
+    [0u8; 33942]
+}
+
+// Puts as much of a text behind the first `at` bytes as there is room for, and says where it ends.
+fn push(out: &mut [u8], at: usize, text: &[u8]) -> usize
+    requires { at ≤ length out.old }
+    ensures within { IsPrefixLen result out.new }
+    ensures kept { take at out.new ≡ take at out.old }
+    ensures copied { drop at (take result out.new) ≡ take (length out.old - at) text.now }
+{
+    let count = (out.len() - at).min(text.len());
+    let end = at + count;
+    out[at..end].copy_from_slice(&text[..count]);
+    end
+}
+
+pub fn push_reply(out: &mut [u8], at: usize, reply: Reply) -> usize
+    requires { at ≤ length out.old }
+    ensures within { IsPrefixLen result out.new }
+    ensures kept { take at out.new ≡ take at out.old }
+{
+    let mut line = ArrayVec::<u8, 84>::new();
+    // There is room for any reply, so that this does not fail.
+    let _written = writeln!(line, "{reply}");
+    push(out, at, line.as_slice())
+}
+
+pub fn push_report(out: &mut [u8], at: usize, bytes: &[u8]) -> usize
+    requires { at ≤ length out.old }
+    ensures within { IsPrefixLen result out.new }
+    ensures kept { take at out.new ≡ take at out.old }
+{
+    push(out, at, report_of(bytes).as_slice())
+}
+
+// Writes all of a report at once, or fails.
+pub fn write_report<W: Write>(out: &mut W, bytes: &[u8]) -> io::Result<()>
+    ensures { OnOk result ((text : List ℕ) × (length text ≤ 33942) × Appends (W.contents out.old) (W.contents out.new) text) }
+{
+    out.write_all(report_of(bytes).as_slice())
+}
+
+fn report_of(bytes: &[u8]) -> Report {
+    let mut report = Report::new();
+    // There is room for all lines, so that this does not fail.
+    let _written = write_lines(&mut report, bytes);
+    report
+}
+
 // The reply to a sheet, and under it the chain that comes with it. The chain's buffer is as long as a chain can be.
-pub fn write_report<W: Write>(out: &mut W, bytes: &[u8]) -> io::Result<()> {
+fn write_lines<W: Write>(out: &mut W, bytes: &[u8]) -> io::Result<()> {
     let mut chain = [0u32; 1026];
     let reply = liivokarp::lk_assemble(bytes, &mut chain);
     writeln!(out, "{reply}")?;

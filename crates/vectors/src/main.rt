@@ -8,7 +8,6 @@ ghost use Rattle.io.specs.Counts.{IsPrefixLen};
 
 use arrayvec::ArrayVec;
 use liivokarp::Reply;
-use report::Report;
 use std::io::Write;
 use std::rt::Files;
 use std::{array, fs, io};
@@ -24,10 +23,10 @@ fn print_reply(rt: &impl Print, name: &str, reply: Reply) -> io::Result<()> {
 }
 
 fn print_report(rt: &impl Print, name: &str, bytes: &[u8]) -> io::Result<()> {
-    let mut report = Report::new();
-    report::write_report(&mut report, bytes)?;
+    let mut out = report::report_room();
+    let end = report::push_report(&mut out, 0, bytes);
     println!(rt; "{name}:")?;
-    rt.write_all(report.as_slice())
+    rt.write_all(&out[..end])
 }
 
 fn assemble_into(rt: &impl Print, name: &str, bytes: &[u8], chain: &mut [u32]) -> io::Result<()> {
