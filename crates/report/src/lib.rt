@@ -91,34 +91,44 @@ pub fn push_report(out: &mut [u8], at: usize, bytes: &[u8]) -> usize
     ensures within { IsPrefixLen result out.new }
     ensures kept { take at out.new ≡ take at out.old }
 {
-    push(out, at, report_of(bytes).as_slice())
+    let mut chain = [0u32; 1026];
+    let reply = liivokarp::lk_assemble(bytes, &mut chain);
+    push_answer(out, at, bytes, reply, &chain)
+}
+
+// Not inlined, so that the text does not stand on the stack while the chain is looked for.
+#[inline(never)]
+fn push_answer(out: &mut [u8], at: usize, bytes: &[u8], reply: Reply, chain: &[u32]) -> usize
+    requires { at ≤ length out.old }
+    ensures within { IsPrefixLen result out.new }
+    ensures kept { take at out.new ≡ take at out.old }
+{
+    push(out, at, report_of(bytes, reply, chain).as_slice())
 }
 
 // Writes all of a report at once, or fails.
 pub fn write_report<W: Write>(out: &mut W, bytes: &[u8]) -> io::Result<()>
     ensures { OnOk result ((text : List ℕ) × (length text ≤ 33942) × Appends (W.contents out.old) (W.contents out.new) text) }
 {
-    out.write_all(report_of(bytes).as_slice())
-}
-
-fn report_of(bytes: &[u8]) -> Report {
-    let mut report = Report::new();
-    // There is room for all lines, so that this does not fail.
-    let _written = write_lines(&mut report, bytes);
-    report
+    let mut chain = [0u32; 1026];
+    let reply = liivokarp::lk_assemble(bytes, &mut chain);
+    out.write_all(report_of(bytes, reply, &chain).as_slice())
 }
 
 // The reply to a sheet, and under it the chain that comes with it. The chain's buffer is as long as a chain can be.
-fn write_lines<W: Write>(out: &mut W, bytes: &[u8]) -> io::Result<()> {
-    let mut chain = [0u32; 1026];
-    let reply = liivokarp::lk_assemble(bytes, &mut chain);
-    writeln!(out, "{reply}")?;
-    write_chain(out, bytes, &chain, reply.count as usize)
+fn report_of(bytes: &[u8], reply: Reply, chain: &[u32]) -> Report {
+    let mut report = Report::new();
+    // There is room for all lines, so that this does not fail.
+    let _written = write_lines(&mut report, bytes, reply, chain);
+    report
 }
 
-// A line for each of the first `count` entries of a chain: its number, type and position. Not inlined, so that the sheet that is read here does not stand on the stack
-// while the chain is looked for.
-#[inline(never)]
+fn write_lines<W: Write>(out: &mut W, bytes: &[u8], reply: Reply, chain: &[u32]) -> io::Result<()> {
+    writeln!(out, "{reply}")?;
+    write_chain(out, bytes, chain, reply.count as usize)
+}
+
+// A line for each of the first `count` entries of a chain: its number, type and position.
 fn write_chain<W: Write>(out: &mut W, bytes: &[u8], chain: &[u32], count: usize) -> io::Result<()> {
     let Ok(sheet) = sheet::read(bytes) else {
         return Ok(());
