@@ -69,9 +69,9 @@ impl<'a> Evidence<'a> {
         let slot = slots::slot_of(q.kind, q.phase, t);
         match q.matching {
             0 => self.slot_score(slot, q.method, source, target),
-            1 => rows::score_rows(slots::starting(self.slots.slot(slot), s), q.method, s, t),
+            1 => rows::score_rows(self.slots.starting(slot, s), q.method, s, t),
             2 => rows::score_rows(self.narrowed.slot(slot), q.method, s, t),
-            _ => rows::score_rows(slots::starting(self.narrowed.slot(slot), s), q.method, s, t),
+            _ => rows::score_rows(self.narrowed.starting(slot, s), q.method, s, t),
         }
     }
 

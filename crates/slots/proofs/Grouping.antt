@@ -9,7 +9,7 @@ use native.Mathlib.Omega.{arith}
 use lib.ListN.{length, get_or, set, take, drop, length-append, length-set, length-drop}
 use lib.Seq.{get_or-set_same, get_or-set_other, drop-append_seam}
 use Rattle.std.specs.List.{filter, slice_range}
-use Rattle.std.proofs.lemmas.List.{length-take, take-append-le, drop-append-le, take_all}
+use Rattle.std.proofs.lemmas.List.{length-take, take-append-le, take-map, drop-append-le, drop-map, take_all}
 use Rattle.std.proofs.lemmas.List.Sums.{length-filter, count_by-le-length}
 use Rattle.std.proofs.lemmas.List.Kept.{IsNonDecreasingBy-filter}
 use Rattle.gaze.specs.declared.Segment.{Segment}
@@ -17,7 +17,7 @@ use Rattle.gaze.specs.Lists.{keep, listed}
 use Rattle.gaze.proofs.Tests.{none_below}
 use Rattle.gaze.proofs.ListLaws.{listed_at, listed_same}
 use Rattle.slots.specs.Slots.{slot_in, ends_at, Rising}
-use Rattle.slots.specs.Held.{rows_of, slots_in, IsGrouped}
+use Rattle.slots.specs.Held.{rows_of, slots_in, starts_of, IsGrouped}
 use Rattle.slots.specs.declared.Slots.TheInside.{Inside}
 
 -- ---- one slot of those that are held
@@ -29,6 +29,18 @@ slot_listed f j h = listed_at f 0 64 [] j h ∙ ap f (zero_left j)
 
 pub slot_is : (s : Inside) (slots : List (List Segment)) → slots_in s ≡ slots → (j : ℕ) → j < 64 → slot_in slots j ≡ rows_of s j
 slot_is s slots e j h = rw (← e) (slot_listed (rows_of s) j h)
+
+-- beside a slot's rows stand their starts
+module _ (s : Inside) (held : IsGrouped s) (slots : List (List Segment)) (view : slots_in s ≡ slots) (j : ℕ) (low : j < 64) where
+  pub starts_beside : slice_range s.starts.items (get_or s.at j 0) (get_or s.at (j + 1) 0) ≡ starts_of (slot_in slots j)
+  starts_beside =
+      let lo = get_or s.at j 0 in
+      let hi = get_or s.at (j + 1) 0 in
+      rw (held.listed, slot_is s slots view j low)
+      (ap (take (hi - lo)) (drop-map (λ g. g.start) lo s.rows.items) ∙ take-map (λ g. g.start) (hi - lo) (drop lo s.rows.items))
+
+  pub slot_rises : Rising (slot_in slots j)
+  slot_rises = rw (slot_is s slots view j low) (held.rising j low)
 
 range_length : (l : List Segment) (lo hi : ℕ) → hi ≤ length l → length (slice_range l lo hi) ≡ hi - lo
 range_length l lo hi h = omega (arith, length-take (hi - lo) (drop lo l), length-drop lo l)
@@ -112,13 +124,17 @@ module _ (slot : ℕ → List Segment) where
         }
 
   -- all slots are written
-  module _ {j : ℕ} (s : Inside) (g : Grouped slot j s.rows.items s.at) (all : j ≡ 64) where
-    pub grouped_view : slots_in s ≡ listed slot 0 64
-    grouped_view = listed_same (rows_of s) slot 0 64 (λ i l u. g.is i (omega (arith, all)))
+  module _ {j : ℕ} (all : j ≡ 64) where
+    pub grouped_view : {rows : List Segment} {at : List ℕ} → Grouped slot j rows at
+        → listed (λ i. slice_range rows (get_or at i 0) (get_or at (i + 1) 0)) 0 64 ≡ listed slot 0 64
+    grouped_view {rows} {at} g =
+        listed_same (λ i. slice_range rows (get_or at i 0) (get_or at (i + 1) 0)) slot 0 64 (λ i l u. g.is i (omega (arith, all)))
 
-    pub grouped_whole : ((i : ℕ) → i < 64 → length (slot i) ≤ 1024) → ((i : ℕ) → i < 64 → Rising (slot i)) → IsGrouped s
-    grouped_whole few rising =
+    pub grouped_whole : (s : Inside) → Grouped slot j s.rows.items s.at → s.starts.items ≡ starts_of s.rows.items → ((i : ℕ) → i < 64 → length (slot i) ≤ 1024)
+        → ((i : ℕ) → i < 64 → Rising (slot i)) → IsGrouped s
+    grouped_whole s g starts few rising =
         record {
+          listed = starts;
           rises = λ i h. g.rises i (omega (arith, all));
           within = λ i h. g.within i (omega (arith, all));
           few = λ i h. rw (g.is i (omega (arith, all))) (few i h);

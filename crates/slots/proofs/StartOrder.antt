@@ -6,13 +6,14 @@ use mathlib.Core.List.{List, [], ◌∷◌}
 use Prim.Native.Nat.{ℕ, zero, suc, ◌+◌, ◌≤◌, ◌<◌}
 use native.Mathlib.Nat.{eq-or-lt_of_le}
 use native.Mathlib.Omega.{arith}
-use lib.Dec.{leb, ltb}
+use lib.Dec.{ltb}
+use lib.IntN.{pos}
 use lib.ListN.{length, get_or, take, drop}
 use Rattle.std.specs.Prelude.{Option, Some, None, MatchOption}
 use Rattle.std.specs.Option.{unwrap_or}
 use Rattle.std.specs.List.{AllWithin, HoldsAt}
-use Rattle.std.specs.List.Sorted.{IsPartitionPoint}
-use Rattle.std.proofs.lemmas.List.{get_or-drop, length-drop}
+use Rattle.std.specs.List.Sorted.{IsNonDecreasingBy, IsPartitionPoint}
+use Rattle.std.proofs.lemmas.List.{get_or-drop, get_or-map, length-drop, length-map}
 use Rattle.std.proofs.lemmas.Bool.Decides.{leb_tells, eqb_tells}
 use Rattle.gaze.specs.declared.Segment.{Segment}
 use Rattle.gaze.specs.Lists.{keep}
@@ -20,6 +21,7 @@ use Rattle.gaze.specs.Ranges.{Before, InOrder, segment_keys}
 use Rattle.gaze.proofs.Tests.{none_below}
 use Rattle.gaze.proofs.ListLaws.{adjacent_all}
 use Rattle.gaze.proofs.OrderLaws.{before_trans}
+use Rattle.slots.specs.Held.{starts_of}
 use Rattle.slots.specs.Slots.{starts_at, Rising}
 
 -- ---- the segments of a sheet
@@ -57,6 +59,24 @@ keep_front test (suc n) (g ∷ l) passes fails =
     rw (passes 0 g (omega arith) (omega arith))
     (ap (λ (m : List Segment). g ∷ m)
     (keep_front test n l (λ i d h k. passes (suc i) d (omega arith) (omega arith)) (λ i d h k. fails (suc i) d (omega arith) (omega arith))))
+
+-- ---- the starts beside the segments
+pub rising_starts : (l : List Segment) → Rising l → IsNonDecreasingBy (λ x. x) (starts_of l)
+rising_starts l rising i j x h k =
+    let within : j < length l = omega (arith, k, length-map l (λ g. g.start)) in
+    rw (get_or-map (λ g. g.start) l i nothing x (omega arith), get_or-map (λ g. g.start) l j nothing x within) (rising i j nothing h within)
+  where
+    nothing : Segment
+    nothing = record { kind = 0; start = 0; end = 0; score = pos 0 }
+
+pub listed_earlier : (s : ℕ) (l : List Segment) (first : ℕ) → first ≤ length l → AllWithin (λ x. ltb x s ≡ true) (starts_of l) 0 first
+    → AllWithin (λ g. g.start < s) l 0 first
+listed_earlier s l first within before i d h k =
+    grind (arith, leb_tells, before i d.start h k, get_or-map (λ g. g.start) l i d d.start (omega arith))
+
+pub starting_later : (s : ℕ) (l : List Segment) (first : ℕ) → AllWithin (λ g. g.start < s) l 0 first
+    → keep (starts_at s) (drop first l) ≡ keep (starts_at s) l
+starting_later s l first earlier = sym (keep_from (starts_at s) first l (λ i d h k. grind (arith, eqb_tells, earlier i d h k)))
 
 -- ---- the first that does not start before s, and of those from it on the first that starts behind s
 -- behind it all do

@@ -3,11 +3,14 @@
 
 #![tactic(auto)]
 
-ghost use Rattle.std.specs.Prelude.{◌≡◌, [], ◌++◌, ◌+◌, ◌<◌, ◌≤◌, length, replicate, filter};
+ghost use Rattle.std.specs.List.{AllWithin};
+ghost use Rattle.std.specs.List.Sorted.{IsPartitionPoint};
+ghost use Rattle.std.specs.Prelude.{◌≡◌, true, false, ltb, [], ◌++◌, ◌+◌, ◌<◌, ◌≤◌, length, replicate, filter};
 ghost use Rattle.arrayvec.specs.ArrayVec.{array_vec_len};
 ghost use Rattle.gaze.specs.Lists.{keep, Each};
 ghost use Rattle.gaze.specs.Ranges.{Group, SegmentRanges, segment_keys};
 ghost use Rattle.gaze.specs.SegmentScore.{largest_share};
+ghost use Rattle.slots.specs.Held.{starts_of};
 ghost use Rattle.slots.specs.Slots.{slot_of, class_phase, in_slot, Marked, slots_of, slot_in, starts_at, ends_at, ending, Rising};
 
 use arrayvec::ArrayVec;
@@ -60,6 +63,8 @@ pub fn mark(kind: u32, phase: u32, used: &mut [bool])
 #[derive(Drop)]
 pub struct Slots {
     rows: ArrayVec<Row, 2048>,
+    // The start of each row, beside the rows: whoever searches a crowded slot for a source reads four bytes of a row and not all of it.
+    starts: ArrayVec<u32, 2048>,
     at: [usize; 65],
 }
 
@@ -91,12 +96,14 @@ impl Slots {
         ensures { result ≡ slots_of segments.now }
     {
         let mut rows = ArrayVec::new();
+        let mut starts = ArrayVec::new();
         let mut at = [0; 65];
         for j in 0..64 {
             push_slot(&mut rows, segments, j);
             at[j + 1] = rows.len();
         }
-        Slots { rows, at }
+        list_starts(&mut starts, rows.as_slice());
+        Slots { rows, starts, at }
     }
 
     // The rows of one slot.
@@ -107,6 +114,23 @@ impl Slots {
         ensures few { length result.now ≤ 1024 }
     {
         &self.rows.as_slice()[self.at[j]..self.at[j + 1]]
+    }
+
+    // The first of a slot's rows that does not start before `s`, or one beyond the last.
+    fn first_from(&self, j: usize, s: u32) -> usize
+        requires { j < 64 }
+        ensures bound { result ≤ length (slot_in self.now j) }
+        ensures earlier { AllWithin (λ g. g.start < s) (slot_in self.now j) 0 result }
+    {
+        self.starts.as_slice()[self.at[j]..self.at[j + 1]].partition_point(|start| *start < s)
+    }
+
+    // Those of a slot's rows that start at `s`.
+    pub fn starting(&self, j: usize, s: u32) -> &[Row]
+        requires { j < 64 }
+        ensures { result.now ≡ keep (starts_at s) (slot_in self.now j) }
+    {
+        starting(&self.slot(j)[self.first_from(j, s)..], s)
     }
 
     // Takes the place of what was held: of every slot of `slots` that is used the rows that end at `t`.
@@ -122,6 +146,7 @@ impl Slots {
             }
             self.at[j + 1] = self.rows.len();
         }
+        list_starts(&mut self.starts, self.rows.as_slice());
     }
 }
 
@@ -153,15 +178,37 @@ fn push_ending(rows: &mut ArrayVec<Row, 2048>, slot: &[Row], t: u32)
     }
 }
 
+// The start of each row, in the place of what was listed.
+fn list_starts(starts: &mut ArrayVec<u32, 2048>, rows: &[Row])
+    requires { length rows.now ≤ 2048 }
+    ensures { starts.new.items ≡ starts_of rows.now }
+{
+    starts.clear();
+    for row in rows {
+        starts.push(row.segment.start);
+    }
+}
+
 // ---- rows by their starts
+
+// The first of the rows that does not start before `s`. Where that is the very first, as in what `Slots::starting` hands over, nothing is searched.
+fn first_from(rows: &[Row], s: u32) -> usize
+    requires { Rising rows.now }
+    ensures bound { result ≤ length rows.now }
+    ensures first { IsPartitionPoint (λ g. ltb g.start s ≡ true) (λ g. ltb g.start s ≡ false) rows.now result }
+{
+    match rows.first() {
+        Some(row) if row.segment.start < s => rows.partition_point(|row| row.segment.start < s),
+        _ => 0,
+    }
+}
 
 // Those of the rows that start at `s`.
 pub fn starting(rows: &[Row], s: u32) -> &[Row]
     requires { Rising rows.now }
     ensures { result.now ≡ keep (starts_at s) rows.now }
 {
-    let first = rows.partition_point(|row| row.segment.start < s);
-    let from_source = &rows[first..];
+    let from_source = &rows[first_from(rows, s)..];
     // One by one and not by halves: whoever asks looks at these few rows anyway.
     let count = from_source
         .iter()

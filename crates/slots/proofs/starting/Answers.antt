@@ -1,7 +1,6 @@
 -- `starting` is right because rows that start at `s` stand from the first that does not start before `s` to the first that starts behind it.
 use Rattle.std.proofs.Common.{rules, tests, drop, arith, length, take_all, ◌≡◌, ◌≤◌, ◌<◌, take, ◌-◌}
-use lib.Dec.{ltb}
-use Rattle.std.proofs.lemmas.List.Sorted.{IsPartitionedBy-ltb, IsPartitionPoint-from_clause, IsNonDecreasingBy-drop}
+use Rattle.std.proofs.lemmas.List.Sorted.{IsNonDecreasingBy-drop}
 use Rattle.std.proofs.lemmas.Iterator.{YieldsList-from_slice, IsFirst-from_position}
 use lib.ListN.{length-drop}
 use Rattle.std.specs.Option.{unwrap_or}
@@ -13,7 +12,7 @@ pub returns : goal.returns
 returns c =
     let rows = c.args.rows.now in
     let s = c.args.s in
-    let first = c.partition_point-first in
+    let first = c.first_from in
     let rest = drop first.result rows in
     let is : take (length rows - first.result) rest ≡ rest = take_all (length rows - first.result) rest (omega (arith, length-drop first.result rows)) in
     let count = c.unwrap_or-count in
@@ -22,8 +21,4 @@ returns c =
     let behind : Behind s from_source (unwrap_or c.position.result (length from_source)) =
     all_behind s from_source c.position.result rising
     (IsFirst-from_position _ _ _ (λ g. s < g.start) (λ g. g.start ≤ s) c.position.ensures.ran (YieldsList-from_slice from_source cc) (λ x q k. search (rules, tests)) (λ x q k. search (rules, tests))) in
-    rw is
-    (starting_together s rows first.result count.result
-    (IsPartitionPoint-from_clause (λ g. ltb g.start s) rows first.result first.ensures.partitioned
-    (IsPartitionedBy-ltb (λ g. g.start) rows s c.requires) (λ a r f' k. search rules))
-    (rw is at (rw (← count.ensures) at behind)))
+    rw is (starting_together s rows first.result count.result first.ensures.first (rw is at (rw (← count.ensures) at behind)))

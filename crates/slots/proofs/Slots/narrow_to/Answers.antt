@@ -37,10 +37,10 @@ pub invariant_of-self : goal.invariant_of-self
 invariant_of-self c =
     let a = c.args in
     let s = c.slots in
-    grouped_whole _ _ c.loop-j.invariant.grouped (omega arith)
+    grouped_whole _ (omega arith) _ c.loop-j.invariant.grouped (rw (← c.as_slice-2.ensures.value) c.list_starts.ensures)
     (left_few a.used.now a.t a.slots.now s.inside s.view_is s.invariant)
     (left_rising a.used.now a.t a.slots.now s.inside s.view_is s.invariant)
 
 pub returns : goal.returns
 unfolding ending
-returns c = grouped_view _ _ c.loop-j.invariant.grouped (omega arith) ∙ listed_same _ _ 0 64 (λ j l u. filter_keeps _ _)
+returns c = grouped_view _ (omega arith) c.loop-j.invariant.grouped ∙ listed_same _ _ 0 64 (λ j l u. filter_keeps _ _)

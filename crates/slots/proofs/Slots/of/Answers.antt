@@ -36,12 +36,12 @@ loop-j-preserved c =
 pub invariant_of-result : goal.invariant_of-result
 invariant_of-result c =
     let p = c.requires in
-    grouped_whole _ _ c.loop-j.invariant.grouped (omega arith)
+    grouped_whole _ (omega arith) _ c.loop-j.invariant.grouped (rw (← c.as_slice.ensures.value) c.list_starts.ensures)
     (λ j h. omega (arith, p.few, filter_length (in_slot j) c.args.segments.now))
     (λ j h. IsNonDecreasingBy-filter (λ g. g.start) (in_slot j) c.args.segments.now (in_order_rising c.args.segments.now p.ordered))
 
 pub returns : goal.returns
 unfolding slots_of
 returns c =
-    grouped_view _ _ c.loop-j.invariant.grouped (omega arith)
+    grouped_view _ (omega arith) c.loop-j.invariant.grouped
     ∙ listed_same _ _ 0 64 (λ j l u. filter_keeps (in_slot j) c.args.segments.now)

@@ -1,3 +1,4 @@
+-- `summed` is right because what it gives back is a field of which the invariant says this.
 use Rattle.step.proofs.prepared.Prepared.summed.Goals as goal
 
 pub returns : goal.returns
