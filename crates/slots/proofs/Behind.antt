@@ -17,6 +17,7 @@ use Rattle.gaze.specs.declared.Segment.{Segment}
 use Rattle.gaze.specs.Lists.{Each, keep}
 use Rattle.gaze.specs.SegmentScore.{enters, overlap, size, share, largest, largest_share}
 use Rattle.gaze.proofs.ListLaws.{each_of, each_mapped, keep_all}
+use Rattle.slots.proofs.StartOrder.{blank}
 
 abbrev Zeros : List ℤ → Type 0
 Zeros l = Each (λ z. z ≡ pos 0) l
@@ -55,16 +56,13 @@ module _ (s t : ℕ) where
   largest_behind l behind h late =
       let far = drop behind l in
       let k : 0 < length (map (share s t) far) = omega (arith, length-map far (share s t), length-drop behind l) in
-      let each : Each (λ g. t < g.start) far = each_of (λ g. t < g.start) nothing far far_late in
+      let each : Each (λ g. t < g.start) far = each_of (λ g. t < g.start) blank far far_late in
       ap (λ (m : List ℤ). larger_of (largest m) (pos 0)) (shares_all (take behind l))
       ∙ (sym (zeros_after (map (share s t) (take behind l)) (map (share s t) far) k (each_mapped (λ g. t < g.start) (λ z. z ≡ pos 0) (share s t) far share_behind each))
       ∙ (ap largest (sym (map-append (share s t) (take behind l) far) ∙ ap (map (share s t)) (take-append-drop behind l))
       ∙ ap largest (sym (shares_all l))))
     where
-      nothing : Segment
-      nothing = record { kind = 0; start = 0; end = 0; score = pos 0 }
-
-      far_late : (i : ℕ) → i < length (drop behind l) → t < (get_or (drop behind l) i nothing).start
+      far_late : (i : ℕ) → i < length (drop behind l) → t < (get_or (drop behind l) i blank).start
       far_late i n =
-          let h = late (behind + i) nothing (omega arith) (omega (arith, length-drop behind l)) in
-          rw (get_or-drop behind l i nothing) (grind (arith, leb_tells))
+          let h = late (behind + i) blank (omega arith) (omega (arith, length-drop behind l)) in
+          rw (get_or-drop behind l i blank) (grind (arith, leb_tells))

@@ -6,8 +6,8 @@ use mathlib.Core.List.{List, [], ◌∷◌, ◌++◌, append-nil}
 use Prim.Native.Nat.{ℕ, ◌+◌, ◌-◌, ◌≤◌, ◌<◌}
 use native.Mathlib.Nat.{eq-or-lt_of_le}
 use native.Mathlib.Omega.{arith}
-use lib.ListN.{length, get_or, set, take, drop, length-append, length-set, length-drop}
-use lib.Seq.{get_or-set_same, get_or-set_other, drop-append_seam}
+use lib.ListN.{length, get_or, set, replicate, take, drop, length-append, length-set, length-drop}
+use lib.Seq.{drop-nil, take-nil, get_or-set_same, get_or-set_other, drop-append_seam}
 use Rattle.std.specs.List.{filter, slice_range}
 use Rattle.std.proofs.lemmas.List.{length-take, take-append-le, take-map, drop-append-le, drop-map, take_all}
 use Rattle.std.proofs.lemmas.List.Sums.{length-filter, count_by-le-length}
@@ -17,7 +17,7 @@ use Rattle.gaze.specs.Lists.{keep, listed}
 use Rattle.gaze.proofs.Tests.{none_below}
 use Rattle.gaze.proofs.ListLaws.{listed_at, listed_same}
 use Rattle.slots.specs.Slots.{slot_in, ends_at, Rising}
-use Rattle.slots.specs.Held.{rows_of, slots_in, starts_of, IsGrouped}
+use Rattle.slots.specs.Held.{part, rows_of, slots_in, starts_of, IsGrouped}
 use Rattle.slots.specs.declared.Slots.TheInside.{Inside}
 
 -- ---- one slot of those that are held
@@ -32,7 +32,7 @@ slot_is s slots e j h = rw (← e) (slot_listed (rows_of s) j h)
 
 -- beside a slot's rows stand their starts
 module _ (s : Inside) (held : IsGrouped s) (slots : List (List Segment)) (view : slots_in s ≡ slots) (j : ℕ) (low : j < 64) where
-  pub starts_beside : slice_range s.starts.items (get_or s.at j 0) (get_or s.at (j + 1) 0) ≡ starts_of (slot_in slots j)
+  pub starts_beside : part s.starts.items s.at j ≡ starts_of (slot_in slots j)
   starts_beside =
       let lo = get_or s.at j 0 in
       let hi = get_or s.at (j + 1) 0 in
@@ -50,13 +50,35 @@ range_kept l m lo hi h k =
     ap (take (hi - lo)) (drop-append-le lo l m (omega arith))
     ∙ take-append-le (hi - lo) (drop lo l) m (omega (arith, length-drop lo l))
 
+-- ---- no rows
+range_none : (lo hi : ℕ) → slice_range {X = Segment} [] lo hi ≡ []
+range_none lo hi = ap (take (hi - lo)) (drop-nil lo) ∙ take-nil (hi - lo)
+
+module _ (s : Inside) (no_rows : s.rows.items ≡ []) (no_starts : s.starts.items ≡ []) (at_0 : (j : ℕ) → j < 65 → get_or s.at j 0 ≡ 0) where
+  none_in : (j : ℕ) → rows_of s j ≡ []
+  none_in j = rw no_rows (range_none (get_or s.at j 0) (get_or s.at (j + 1) 0))
+
+  pub none_view : slots_in s ≡ replicate 64 []
+  unfolding listed
+  none_view = listed_same (rows_of s) (λ j. []) 0 64 (λ j l u. none_in j) ∙ refl
+
+  pub none_grouped : IsGrouped s
+  none_grouped =
+      record {
+        listed = no_starts ∙ sym (ap starts_of no_rows);
+        rises = λ j h. omega (arith, at_0 j (omega arith), at_0 (j + 1) (omega arith));
+        within = λ j h. omega (arith, at_0 (j + 1) (omega arith));
+        few = λ j h. rw (none_in j) (omega arith);
+        rising = λ j h. rw (none_in j) (λ i k d m n. absurd (none_below n));
+      }
+
 -- ---- the rows after the slots below j
 pub record Grouped (slot : ℕ → List Segment) (j : ℕ) (rows : List Segment) (at : List ℕ) : Type 0 where
   pub long : length at ≡ 65
   pub last : get_or at j 0 ≡ length rows
   pub rises : (i : ℕ) → i < j → get_or at i 0 ≤ get_or at (i + 1) 0
   pub within : (i : ℕ) → i < j → get_or at (i + 1) 0 ≤ length rows
-  pub is : (i : ℕ) → i < j → slice_range rows (get_or at i 0) (get_or at (i + 1) 0) ≡ slot i
+  pub is : (i : ℕ) → i < j → part rows at i ≡ slot i
 
 module _ (slot : ℕ → List Segment) where
   pub grouped_none : (rows : List Segment) (at : List ℕ) → rows ≡ [] → length at ≡ 65 → get_or at 0 0 ≡ 0 → Grouped slot 0 rows at
@@ -125,10 +147,8 @@ module _ (slot : ℕ → List Segment) where
 
   -- all slots are written
   module _ {j : ℕ} (all : j ≡ 64) where
-    pub grouped_view : {rows : List Segment} {at : List ℕ} → Grouped slot j rows at
-        → listed (λ i. slice_range rows (get_or at i 0) (get_or at (i + 1) 0)) 0 64 ≡ listed slot 0 64
-    grouped_view {rows} {at} g =
-        listed_same (λ i. slice_range rows (get_or at i 0) (get_or at (i + 1) 0)) slot 0 64 (λ i l u. g.is i (omega (arith, all)))
+    pub grouped_view : {rows : List Segment} {at : List ℕ} → Grouped slot j rows at → listed (part rows at) 0 64 ≡ listed slot 0 64
+    grouped_view {rows} {at} g = listed_same (part rows at) slot 0 64 (λ i l u. g.is i (omega (arith, all)))
 
     pub grouped_whole : (s : Inside) → Grouped slot j s.rows.items s.at → s.starts.items ≡ starts_of s.rows.items → ((i : ℕ) → i < 64 → length (slot i) ≤ 1024)
         → ((i : ℕ) → i < 64 → Rising (slot i)) → IsGrouped s

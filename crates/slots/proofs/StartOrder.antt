@@ -61,22 +61,28 @@ keep_front test (suc n) (g ∷ l) passes fails =
     (keep_front test n l (λ i d h k. passes (suc i) d (omega arith) (omega arith)) (λ i d h k. fails (suc i) d (omega arith) (omega arith))))
 
 -- ---- the starts beside the segments
+pub blank : Segment
+blank = record { kind = 0; start = 0; end = 0; score = pos 0 }
+
 pub rising_starts : (l : List Segment) → Rising l → IsNonDecreasingBy (λ x. x) (starts_of l)
 rising_starts l rising i j x h k =
     let within : j < length l = omega (arith, k, length-map l (λ g. g.start)) in
-    rw (get_or-map (λ g. g.start) l i nothing x (omega arith), get_or-map (λ g. g.start) l j nothing x within) (rising i j nothing h within)
+    rw (get_or-map (λ g. g.start) l i blank x (omega arith), get_or-map (λ g. g.start) l j blank x within) (rising i j blank h within)
+
+pub first_of_starts : (s : ℕ) (l : List Segment) (first : ℕ) → first ≤ length l
+    → IsPartitionPoint (λ x. ltb x s ≡ true) (λ x. ltb x s ≡ false) (starts_of l) first
+    → IsPartitionPoint (λ g. ltb g.start s ≡ true) (λ g. ltb g.start s ≡ false) l first
+first_of_starts s l first within p = (
+  λ i d h k. rw (← start_at i d (omega arith)) (p.0 i d.start h k),
+  λ i d h k. rw (← start_at i d k) (p.1 i d.start h (omega (arith, length-map l (λ g. g.start)))),
+)
   where
-    nothing : Segment
-    nothing = record { kind = 0; start = 0; end = 0; score = pos 0 }
+    start_at : (i : ℕ) (d : Segment) → i < length l → get_or (starts_of l) i d.start ≡ (get_or l i d).start
+    start_at i d k = get_or-map (λ g. g.start) l i d d.start k
 
-pub listed_earlier : (s : ℕ) (l : List Segment) (first : ℕ) → first ≤ length l → AllWithin (λ x. ltb x s ≡ true) (starts_of l) 0 first
-    → AllWithin (λ g. g.start < s) l 0 first
-listed_earlier s l first within before i d h k =
-    grind (arith, leb_tells, before i d.start h k, get_or-map (λ g. g.start) l i d d.start (omega arith))
-
-pub starting_later : (s : ℕ) (l : List Segment) (first : ℕ) → AllWithin (λ g. g.start < s) l 0 first
+pub starting_later : (s : ℕ) (l : List Segment) (first : ℕ) → AllWithin (λ g. ltb g.start s ≡ true) l 0 first
     → keep (starts_at s) (drop first l) ≡ keep (starts_at s) l
-starting_later s l first earlier = sym (keep_from (starts_at s) first l (λ i d h k. grind (arith, eqb_tells, earlier i d h k)))
+starting_later s l first earlier = sym (keep_from (starts_at s) first l (λ i d h k. grind (arith, leb_tells, eqb_tells, earlier i d h k)))
 
 -- ---- the first that does not start before s, and of those from it on the first that starts behind s
 -- behind it all do

@@ -5,18 +5,22 @@ use Rattle.gaze.specs.Lists.{listed}
 use Rattle.slots.specs.Slots.{Rising}
 use Rattle.slots.specs.declared.Slots.TheInside.{Inside}
 
--- Rows at j to at (j + 1) are slot j's.
+-- What stands from at j to at (j + 1): of the rows, slot j's.
+abbrev pub part : {A : Type 0} → List A → List ℕ → ℕ → List A
+part items at j = slice_range items (get_or at j 0) (get_or at (j + 1) 0)
+
 abbrev pub rows_of : Inside → ℕ → List Segment
-rows_of s j = slice_range s.rows.items (get_or s.at j 0) (get_or s.at (j + 1) 0)
+rows_of s = part s.rows.items s.at
 
 abbrev pub slots_in : Inside → List (List Segment)
 slots_in s = listed (rows_of s) 0 64
 
+-- The column that stands beside rows, for the search by their starts.
 abbrev pub starts_of : List Segment → List ℕ
 starts_of l = map (λ g. g.start) l
 
--- What is true of them all: the starts stand beside the rows, the bounds rise up to the number of rows, and no slot has more rows than a sheet may have segments, nor has them out of the
--- order of their starts.
+-- What is true of them all: the starts stand beside the rows, the bounds rise up to the number of rows, and no slot has more rows than a sheet may
+-- have segments, nor has them out of the order of their starts.
 pub record IsGrouped (s : Inside) : Type 0 where
   pub listed : s.starts.items ≡ starts_of s.rows.items
   pub rises : (j : ℕ) → j < 64 → get_or s.at j 0 ≤ get_or s.at (j + 1) 0

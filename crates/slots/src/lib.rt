@@ -3,7 +3,6 @@
 
 #![tactic(auto)]
 
-ghost use Rattle.std.specs.List.{AllWithin};
 ghost use Rattle.std.specs.List.Sorted.{IsPartitionPoint};
 ghost use Rattle.std.specs.Prelude.{◌≡◌, true, false, ltb, [], ◌++◌, ◌+◌, ◌<◌, ◌≤◌, length, replicate, filter};
 ghost use Rattle.arrayvec.specs.ArrayVec.{array_vec_len};
@@ -82,11 +81,16 @@ impl Model for Slots {
 }
 
 impl Slots {
-    // No rows in any slot.
+    // No rows in any slot. Not inlined, so that a caller keeps no second copy on its stack.
+    #[inline(never)]
     pub fn empty() -> Slots
         ensures { result ≡ replicate 64 [] }
     {
-        Slots::of(&[])
+        Slots {
+            rows: ArrayVec::new(),
+            starts: ArrayVec::new(),
+            at: [0; 65],
+        }
     }
 
     // The segments of a sheet by slot. Not inlined, so that a caller keeps no second copy on its stack.
@@ -117,10 +121,10 @@ impl Slots {
     }
 
     // The first of a slot's rows that does not start before `s`, or one beyond the last.
-    fn first_from(&self, j: usize, s: u32) -> usize
+    fn first_in_slot(&self, j: usize, s: u32) -> usize
         requires { j < 64 }
         ensures bound { result ≤ length (slot_in self.now j) }
-        ensures earlier { AllWithin (λ g. g.start < s) (slot_in self.now j) 0 result }
+        ensures first { IsPartitionPoint (λ g. ltb g.start s ≡ true) (λ g. ltb g.start s ≡ false) (slot_in self.now j) result }
     {
         self.starts.as_slice()[self.at[j]..self.at[j + 1]].partition_point(|start| *start < s)
     }
@@ -130,7 +134,7 @@ impl Slots {
         requires { j < 64 }
         ensures { result.now ≡ keep (starts_at s) (slot_in self.now j) }
     {
-        starting(&self.slot(j)[self.first_from(j, s)..], s)
+        starting(&self.slot(j)[self.first_in_slot(j, s)..], s)
     }
 
     // Takes the place of what was held: of every slot of `slots` that is used the rows that end at `t`.
@@ -191,7 +195,8 @@ fn list_starts(starts: &mut ArrayVec<u32, 2048>, rows: &[Row])
 
 // ---- rows by their starts
 
-// The first of the rows that does not start before `s`. Where that is the very first, as in what `Slots::starting` hands over, nothing is searched.
+// The first of the rows that does not start before `s`, or one beyond the last. Where it is the very first, nothing is searched: whoever has found the
+// place may ask again.
 fn first_from(rows: &[Row], s: u32) -> usize
     requires { Rising rows.now }
     ensures bound { result ≤ length rows.now }

@@ -7,7 +7,7 @@ use Rattle.slots.proofs.Slots.starting.Goals as goal
 pub returns : goal.returns
 returns c =
     let s = c.args.s in
-    let first = c.first_from in
+    let first = c.first_in_slot in
     let rows = c.slot.result.now in
     rw (c.starting.ensures, take_all (length rows - first.result) (drop first.result rows) (omega (arith, length-drop first.result rows)), c.slot.ensures.rows)
-    (starting_later s _ first.result first.ensures.earlier)
+    (starting_later s _ first.result first.ensures.first.0)
