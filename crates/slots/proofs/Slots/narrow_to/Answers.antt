@@ -1,4 +1,5 @@
 use Rattle.std.proofs.Common.{arith, ap, length, ◌∙◌, ◌≡◌, ◌++◌, length-append}
+use Rattle.slots.specs.Held.{starts_of}
 use Rattle.slots.specs.Slots.{ending}
 use Rattle.slots.proofs.Grouping.{grouped_more, grouped_view, grouped_whole, filter_keeps, left, left_room, left_few, left_rising, left_used, left_unused}
 use Rattle.gaze.proofs.ListLaws.{listed_same}
@@ -37,7 +38,7 @@ pub invariant_of-self : goal.invariant_of-self
 invariant_of-self c =
     let a = c.args in
     let s = c.slots in
-    grouped_whole _ (omega arith) _ c.loop-j.invariant.grouped (rw (← c.as_slice-2.ensures.value) c.list_starts.ensures)
+    grouped_whole _ (omega arith) _ c.loop-j.invariant.grouped (c.list_starts.ensures ∙ ap starts_of c.as_slice-2.ensures.value)
     (left_few a.used.now a.t a.slots.now s.inside s.view_is s.invariant)
     (left_rising a.used.now a.t a.slots.now s.inside s.view_is s.invariant)
 

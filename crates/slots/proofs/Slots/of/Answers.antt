@@ -1,5 +1,6 @@
 use Rattle.std.proofs.Common.{arith, refl, ap, length, ◌∙◌, ◌+◌, length-append, filter}
 use Rattle.std.proofs.lemmas.List.Kept.{IsNonDecreasingBy-filter}
+use Rattle.slots.specs.Held.{starts_of}
 use Rattle.slots.specs.Slots.{in_slot, slots_of}
 use Rattle.slots.proofs.StartOrder.{in_order_rising}
 use Rattle.slots.proofs.Counting.{counted, counted_next, counted_most}
@@ -36,7 +37,7 @@ loop-j-preserved c =
 pub invariant_of-result : goal.invariant_of-result
 invariant_of-result c =
     let p = c.requires in
-    grouped_whole _ (omega arith) _ c.loop-j.invariant.grouped (rw (← c.as_slice.ensures.value) c.list_starts.ensures)
+    grouped_whole _ (omega arith) _ c.loop-j.invariant.grouped (c.list_starts.ensures ∙ ap starts_of c.as_slice.ensures.value)
     (λ j h. omega (arith, p.few, filter_length (in_slot j) c.args.segments.now))
     (λ j h. IsNonDecreasingBy-filter (λ g. g.start) (in_slot j) c.args.segments.now (in_order_rising c.args.segments.now p.ordered))
 
