@@ -29,10 +29,10 @@ gain_small None h = omega arith
 gain_small (Some gain) h = h
 
 -- the choice has one step more than an earlier entry
-size : (m : Steps) (steps : List (Option ℤ)) (entries : List (Option Reached)) (choice : Option Reached) → Chosen steps entries (length entries) choice
+pub choice_size : (m : Steps) (steps : List (Option ℤ)) (entries : List (Option Reached)) (choice : Option Reached) → Chosen steps entries (length entries) choice
     → Searched m entries → GainsSmall steps (length entries) → nat_abs (total_of choice) ≤ length entries * 2 ^ 50
-size m steps entries None p done small = omega arith
-size m steps entries (Some best) p done small =
+choice_size m steps entries None p done small = omega arith
+choice_size m steps entries (Some best) p done small =
     let value = total_of (get_or entries best.source None) in
     let gain = unwrap_or (get_or steps best.source None) (pos 0) in
     let below = p.below tt in
@@ -67,7 +67,7 @@ module _ (m : Steps) (steps : List (Option ℤ)) (entries : List (Option Reached
       (λ s lt y. rw (row.is s lt) (gain_is (m.legal s (length entries)) (m.gain s (length entries)) (rw (row.is s lt) at y)))
       p
 
-  pub searched_more : 0 < length entries → GainsSmall steps (length entries) → Searched m (entries ++ choice ∷ [])
+  pub searched_more : 0 < length entries → nat_abs (total_of choice) ≤ length entries * 2 ^ 50 → Searched m (entries ++ choice ∷ [])
   unfolding more
   searched_more some small =
       record {
@@ -75,5 +75,5 @@ module _ (m : Steps) (steps : List (Option ℤ)) (entries : List (Option Reached
         total_size = rw (length-append entries (choice ∷ []), add-one)
             (split_last {P = λ s. nat_abs (total_of (get_or more s None)) ≤ s * 2 ^ 50}
             (λ s lt. rw (← same s lt) (done.total_size s lt))
-            (rw here (size m steps entries choice p done small)));
+            (rw here small));
       }

@@ -1,5 +1,5 @@
 -- The walk back over the sources, from the last candidate of a chain to the first.
-use Rattle.std.proofs.Common.{◌≡◌, ℕ, ◌+◌, ◌≤◌, ◌<◌, List, ◌∷◌, ◌++◌, length, take, drop, set, get_or, refl, sym, ap, ◌∙◌, arith, append_assoc, Option, None}
+use Rattle.std.proofs.Common.{◌≡◌, ℕ, suc, ◌+◌, ◌≤◌, ◌<◌, List, ◌∷◌, ◌++◌, length, take, drop, set, get_or, refl, sym, ap, ◌∙◌, arith, append_assoc, Option, None}
 use Rattle.std.proofs.lemmas.List.{take_more_set, drop-set-lt}
 use Rattle.std.proofs.lemmas.Grind.{drop_more_same}
 use lib.Seq.{length-take-le}
@@ -7,6 +7,11 @@ use Rattle.std.proofs.Math.ListN.{length-set}
 use Rattle.gaze.proofs.Table.{Traced, at_begin, came, traced_is}
 use Rattle.chains.specs.declared.Reached.{Reached}
 use Rattle.chains.specs.Tables.{source_of, table, way_back}
+
+-- no way back is longer than there are candidates up to its first
+pub traced_length : {from : ℕ → ℕ} {e : ℕ} {way : List ℕ} → Traced from e way → length way ≤ suc e
+traced_length at_begin = omega arith
+traced_length (came lt t) = let h = traced_length t in omega arith
 
 -- The candidates passed stand at the front of the buffer, the last one first, and the way goes on from here.
 pub record Walking (entries : List (Option Reached)) (e : ℕ) (chain₀ chain : List ℕ) (count place : ℕ) : Type 0 where

@@ -59,55 +59,57 @@ walked_none sheet c = record { legal_so_far = λ i h l. absurd (none_below h l);
     nothing_yet m [] = refl
     nothing_yet m (a ∷ l) = refl
 
-module _ {sheet : Sheet} (r : InRange sheet) {c : List ℕ} (p : Chain (end_number sheet) c) where
-  pub source_before : (k : ℕ) → 1 ≤ k → k < length c → get_or c (k - 1) 0 < get_or c k 0
-  source_before k from_one within =
-      let e : suc (k - 1) ≡ k = omega arith in
-      subst (λ (j : ℕ). get_or c (k - 1) 0 < get_or c j 0) e (adjacent_at (λ a b. a < b) 0 c p.rises (k - 1) (omega arith))
+pub source_before : {e : ℕ} {c : List ℕ} → Chain e c → (k : ℕ) → 1 ≤ k → k < length c → get_or c (k - 1) 0 < get_or c k 0
+source_before {e} {c} p k from_one within =
+    let same : suc (k - 1) ≡ k = omega arith in
+    subst (λ (j : ℕ). get_or c (k - 1) 0 < get_or c j 0) same (adjacent_at (λ a b. a < b) 0 c p.rises (k - 1) (omega arith))
 
-  module _ {k : ℕ} {z : ℤ} (w : Walked sheet c k z) (from_one : 1 ≤ k) (within : k < length c) where
-    module _ {gained : ℤ} (taken : Some gained ≡ step (steps sheet) (get_or c (k - 1) 0) (get_or c k 0)) where
-      gained_is : gained ≡ gain sheet (get_or c (k - 1) 0) (get_or c k 0)
-      gained_is = (some_step sheet (get_or c (k - 1) 0) (get_or c k 0) taken).1
+pub gained_small : {sheet : Sheet} {gained : ℤ} → InRange sheet → (s t : ℕ) → Some gained ≡ step (steps sheet) s t → nat_abs gained ≤ 2 ^ 50
+gained_small {sheet} r s t taken = rw ((some_step sheet s t taken).1) (gain_size sheet r s t)
 
-      pub gained_small : nat_abs gained ≤ 2 ^ 50
-      gained_small = rw gained_is (gain_size sheet r (get_or c (k - 1) 0) (get_or c k 0))
+-- a chain has no more entries than there are candidates
+pub walked_fits : {sheet : Sheet} {c : List ℕ} {k : ℕ} {z : ℤ} → InRange sheet → Chain (end_number sheet) c → Walked sheet c k z → k < length c
+    → (gained : ℤ) → nat_abs gained ≤ 2 ^ 50 → SFits w64 (z +ℤ gained)
+walked_fits {sheet} {c} {k} {z} r p w within gained small =
+    let few = length_to (end_number sheet) c p in
+    small_fits (z +ℤ gained) (1027 * 2 ^ 50) (omega (arith, abs_sum z gained, w.size, r.features.few)) (omega arith)
 
-      pub walked_fits : SFits w64 (z +ℤ gained)
-      walked_fits =
-          let few = length_to (end_number sheet) c p in
-          small_fits (z +ℤ gained) (1027 * 2 ^ 50) (omega (arith, abs_sum z gained, w.size, gained_small, r.features.few)) (omega arith)
+module _ {sheet : Sheet} {c : List ℕ} {k : ℕ} {z : ℤ} (w : Walked sheet c k z) (from_one : 1 ≤ k) (within : k < length c) where
+  module _ {gained : ℤ} (taken : Some gained ≡ step (steps sheet) (get_or c (k - 1) 0) (get_or c k 0)) where
+    gained_is : gained ≡ gain sheet (get_or c (k - 1) 0) (get_or c k 0)
+    gained_is = (some_step sheet (get_or c (k - 1) 0) (get_or c k 0) taken).1
 
-      pub walked_more : {new : ℤ} → new ≡ z +ℤ gained → Walked sheet c (k + 1) new
-      walked_more {new} e =
-          record {
-            legal_so_far = λ i h l. ⊎_elim
-                (λ (eq : i ≡ k). subst (λ (j : ℕ). T (legal_step (steps sheet) c j)) (sym eq) (some_step sheet (get_or c (k - 1) 0) (get_or c k 0) taken).0)
-                (λ (lt : i < k). w.legal_so_far i h lt)
-                (eq-or-lt_of_le (down l));
-            worth = e ∙ (ap₂ ◌+ℤ◌ w.worth gained_is ∙ sym (front k from_one within));
-            size = rw e (omega (arith, abs_sum z gained, w.size, gained_small));
-          }
-        where
-          down : {i k : ℕ} → i < k + 1 → i ≤ k
-          down h = omega arith
+    pub walked_more : {new : ℤ} → nat_abs gained ≤ 2 ^ 50 → new ≡ z +ℤ gained → Walked sheet c (k + 1) new
+    walked_more {new} small e =
+        record {
+          legal_so_far = λ i h l. ⊎_elim
+              (λ (eq : i ≡ k). subst (λ (j : ℕ). T (legal_step (steps sheet) c j)) (sym eq) (some_step sheet (get_or c (k - 1) 0) (get_or c k 0) taken).0)
+              (λ (lt : i < k). w.legal_so_far i h lt)
+              (eq-or-lt_of_le (down l));
+          worth = e ∙ (ap₂ ◌+ℤ◌ w.worth gained_is ∙ sym (front k from_one within));
+          size = rw e (omega (arith, abs_sum z gained, w.size));
+        }
+      where
+        down : {i k : ℕ} → i < k + 1 → i ≤ k
+        down h = omega arith
 
-          one_down : (j : ℕ) → suc j - 1 ≡ j
-          one_down j = omega arith
+        one_down : (j : ℕ) → suc j - 1 ≡ j
+        one_down j = omega arith
 
-          front : (k : ℕ) → 1 ≤ k → k < length c → total (steps sheet) (take (k + 1) c) ≡ total (steps sheet) (take k c) +ℤ gain sheet (get_or c (k - 1) 0) (get_or c k 0)
-          front zero h l = absurd (none h)
-            where
-              none : 1 ≤ 0 → ⊥
-              none h = omega arith
-          front (suc j) h l = rw (add-one (suc j), one_down j) (total_front (steps sheet) c j l)
+        front : (k : ℕ) → 1 ≤ k → k < length c → total (steps sheet) (take (k + 1) c) ≡ total (steps sheet) (take k c) +ℤ gain sheet (get_or c (k - 1) 0) (get_or c k 0)
+        front zero h l = absurd (none h)
+          where
+            none : 1 ≤ 0 → ⊥
+            none h = omega arith
+        front (suc j) h l = rw (add-one (suc j), one_down j) (total_front (steps sheet) c j l)
 
-    pub breaks_here : None ≡ step (steps sheet) (get_or c (k - 1) 0) (get_or c k 0) → FirstBad (steps sheet) c k
-    breaks_here e =
-        record { from_one = from_one; within = within; bad = no_step sheet (get_or c (k - 1) 0) (get_or c k 0) e; before = w.legal_so_far }
+  pub breaks_here : None ≡ step (steps sheet) (get_or c (k - 1) 0) (get_or c k 0) → FirstBad (steps sheet) c k
+  breaks_here e =
+      record { from_one = from_one; within = within; bad = no_step sheet (get_or c (k - 1) 0) (get_or c k 0) e; before = w.legal_so_far }
 
-  pub walked_all : {k : ℕ} {z : ℤ} → Walked sheet c k z → length c ≤ k → Valid (steps sheet) (end_number sheet) c × (z ≡ total (steps sheet) c)
-  walked_all {k} w all = (
-    valid_of (steps sheet) (end_number sheet) c p (λ i h l. w.legal_so_far i h (omega arith)),
-    w.worth ∙ ap (total (steps sheet)) (take_all k c all),
-  )
+pub walked_all : {sheet : Sheet} {c : List ℕ} {k : ℕ} {z : ℤ} → Walked sheet c k z → Chain (end_number sheet) c → length c ≤ k
+    → Valid (steps sheet) (end_number sheet) c × (z ≡ total (steps sheet) c)
+walked_all {sheet} {c} {k} w p all = (
+  valid_of (steps sheet) (end_number sheet) c p (λ i h l. w.legal_so_far i h (omega arith)),
+  w.worth ∙ ap (total (steps sheet)) (take_all k c all),
+)

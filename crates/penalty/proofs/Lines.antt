@@ -41,6 +41,21 @@ module _ (d : ℕ) where
       passed p q (l ++ after) e.0 e.1.0
       ∙ (interpolated_by_ends (q ∷ l) after e.1 f ∙ ap (λ (i : ℕ). by_ends (slice_get (p ∷ q ∷ l) i) (slice_get after 0) d) one_on)
 
+  -- up to the first point that point's, wherever the others lie
+  pub interpolated_first : (p : Point) (l : List Point) → d ≤ p.distance → interpolated (p ∷ l) d ≡ p.penalty
+  unfolding interpolated
+  interpolated_first p [] h = refl
+  interpolated_first p (q ∷ l) h = rw (le-leb d p.distance h) refl
+
+  -- between the last point before it and the next, wherever those behind lie
+  pub interpolated_line : (before : List Point) (p q : Point) (after : List Point) → Each Before (before ++ p ∷ []) → d ≤ q.distance
+      → interpolated (before ++ p ∷ q ∷ after) d ≡ on_line p q d
+  unfolding interpolated past Each
+  interpolated_line [] p q [] e h = rw (lt-leb d p.distance e.0, le-leb d q.distance h) refl
+  interpolated_line [] p q (r ∷ l) e h = rw (lt-leb d p.distance e.0, le-leb d q.distance h) refl
+  interpolated_line (r ∷ []) p q after e h = passed r p (q ∷ after) e.0 e.1.0 ∙ interpolated_line [] p q after e.1 h
+  interpolated_line (r ∷ s ∷ l) p q after e h = passed r s (l ++ p ∷ q ∷ after) e.0 e.1.0 ∙ interpolated_line (s ∷ l) p q after e.1 h
+
   -- two points or more, all of them before it
   pub interpolated_beyond : (l : List Point) (p q : Point) → Each Before (l ++ p ∷ q ∷ []) → interpolated (l ++ p ∷ q ∷ []) d ≡ beyond p q d
   unfolding interpolated past Each

@@ -6,8 +6,8 @@ use Rattle.gaze.specs.declared.Point.{Point}
 use Rattle.gaze.specs.Lists.{Each, Adjacent, keep}
 use Rattle.gaze.specs.Ranges.{PointRanges, Group, Before, InOrder, point_keys}
 use Rattle.gaze.specs.Penalty.{points_of}
-use Rattle.gaze.proofs.ListLaws.{each_map, each_kept}
-use Rattle.gaze.proofs.OrderLaws.{order_rest, order_head}
+use Rattle.gaze.proofs.ListLaws.{each_at, each_map, each_kept, adjacent_all}
+use Rattle.gaze.proofs.OrderLaws.{order_rest, order_head, before_trans}
 use Rattle.sorted.specs.Sorted.{Rising, FirstRows}
 use Rattle.sorted.proofs.Parts.{rows_rise, stand_together}
 
@@ -43,6 +43,22 @@ module _ (points : List Point) (group : Group 512 PointRanges point_keys points)
       (points_of points function) (each_passes (λ p. eqb p.function function) points) (order_kept (λ p. eqb p.function function) point_keys points group.ordered)
     where
       by_distance : {a b d e : ℕ} → a ≡ function → b ≡ function → Before (a ∷ d ∷ []) (b ∷ e ∷ []) → d ≤ e
+      by_distance h k (inl lt) = absurd (omega arith)
+      by_distance h k (inr (e, inl lt)) = omega arith
+      by_distance h k (inr (e, inr (f, never))) = absurd never
+
+  -- no two of them at one distance
+  pub own_strict : (i j : ℕ) (d : Point) → i < j → j < length (points_of points function)
+      → (get_or (points_of points function) i d).distance < (get_or (points_of points function) j d).distance
+  own_strict i j d before within =
+      by_distance (own i (omega arith)) (own j within)
+      (adjacent_all (λ p q. Before (point_keys p) (point_keys q)) (λ p q r. before_trans (point_keys p) (point_keys q) (point_keys r)) d
+      (points_of points function) (order_kept (λ p. eqb p.function function) point_keys points group.ordered) i j before within)
+    where
+      own : (k : ℕ) → k < length (points_of points function) → (get_or (points_of points function) k d).function ≡ function
+      own k h = eqb-true _ function (each_at (λ p. eqb p.function function ≡ true) d (points_of points function) (each_passes (λ p. eqb p.function function) points) k h)
+
+      by_distance : {a b m n : ℕ} → a ≡ function → b ≡ function → Before (a ∷ m ∷ []) (b ∷ n ∷ []) → m < n
       by_distance h k (inl lt) = absurd (omega arith)
       by_distance h k (inr (e, inl lt)) = omega arith
       by_distance h k (inr (e, inr (f, never))) = absurd never

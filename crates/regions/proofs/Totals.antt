@@ -1,4 +1,4 @@
--- What the first of some Q lines are worth together, one more: each is worth at most 40,000,000,000,000 in size.
+-- What the first of some Q lines are worth together, one more: a line that is worth at most 40,000,000,000,000 in size.
 use mathlib.Core.Path.{◌≡◌, sym, ap, ap₂, ◌∙◌}
 use mathlib.Core.List.{List, [], ◌∷◌, map, map-append}
 use Prim.Native.Nat.{ℕ, ◌+◌, ◌*◌, ◌≤◌, ◌<◌}
@@ -21,9 +21,9 @@ total_more f lines k d h =
     ∙ (ap sum_of (map-append f (take k lines) (get_or lines k d ∷ [])) ∙ sum_snoc (map f (take k lines)) (f (get_or lines k d)))
 
 module _ (f : Qualifier → ℤ) (lines : List Qualifier) (k : ℕ) (d : Qualifier) (here : k < length lines) (sum : ℤ) {score : ℤ}
-    (size : nat_abs sum ≤ k * 40000000000000) (is : score ≡ f (get_or lines k d)) (small : (q : Qualifier) → nat_abs (f q) ≤ 40000000000000) where
+    (size : nat_abs sum ≤ k * 40000000000000) (is : score ≡ f (get_or lines k d)) (small : nat_abs (f (get_or lines k d)) ≤ 40000000000000) where
   score_small : nat_abs score ≤ 40000000000000
-  score_small = rw is (small (get_or lines k d))
+  score_small = rw is small
 
   pub sum_fits : length lines ≤ 256 → SFits w64 (sum +ℤ score)
   sum_fits few = small_fits (sum +ℤ score) 10280000000000000 (omega (arith, abs_sum sum score, score_small)) (omega arith)

@@ -1,6 +1,6 @@
--- Method 1: when a share is the whole score, that the product fits the machine, and that no share is above both the score and 0.
+-- Method 1: when a share is 0 and when the whole score, that the product fits the machine, and that no share is above both the score and 0.
 use mathlib.Core.Path.{◌≡◌, ap, ◌∙◌}
-use Prim.Native.Nat.{ℕ, ◌≤◌}
+use Prim.Native.Nat.{ℕ, ◌≤◌, ◌<◌}
 use native.Mathlib.Omega.{arith}
 use lib.IntN.{ℤ, pos, nat_abs, ◌*ℤ◌}
 use mir.Syntax.{w64}
@@ -8,10 +8,16 @@ use mir.Val.{SFits}
 use Rattle.whole.specs.Whole.{floor_of}
 use Rattle.whole.proofs.Bits.{small_fits}
 use Rattle.whole.proofs.Size.{abs_mul_le}
-use Rattle.whole.proofs.Quotients.{floor_cancel, floor_share}
+use Rattle.whole.proofs.Quotients.{floor_none, floor_cancel, floor_share}
 use Rattle.gaze.specs.declared.Segment.{Segment}
 use Rattle.gaze.specs.SegmentScore.{size, overlap, share}
 use Rattle.rows.proofs.Maxima.{Beaten}
+
+-- a segment that ends before the region has no base in it
+pub share_behind : (g : Segment) (a b : ℕ) → g.end < a → share a b g ≡ pos 0
+share_behind g a b h =
+    let o : overlap a b g ≡ 0 = omega arith in
+    ap (λ (n : ℕ). floor_of (g.score *ℤ pos n) (size g)) o ∙ floor_none g.score (size g)
 
 module _ (a b : ℕ) (g : Segment) (h : g.start ≤ g.end) where
   pub share_whole : a ≤ g.start → g.end ≤ b → share a b g ≡ g.score

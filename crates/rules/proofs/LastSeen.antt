@@ -1,7 +1,7 @@
 -- The last interrupter before a target decides for every source: one stands between exactly where the last one lies beyond the source.
 use Rattle.std.proofs.Common.{◌≡◌, ℕ, ◌+◌, ◌-◌, ◌*◌, ◌%◌, ◌<◌, ◌≤◌, List, [], ◌∷◌, Bool, true, false, ◌&&◌, ◌||◌, length, get_or, set, take, drop, replicate, refl, sym, ap, ap₂, subst, ◌∙◌, arith, length-set, ⊎_elim}
 use Rattle.std.proofs.Math.Dec.{eqb, ltb}
-use borrow.Author.Tests.{lt-ltb, le-ltb, eqb-true, eqb-false, ltb-true}
+use borrow.Author.Tests.{lt-ltb, le-ltb, eqb-true, eqb-false, ltb-true, ltb-false}
 use Rattle.std.proofs.lemmas.List.{get_or-set_same, get_or-set_other, get_or-replicate, get_or_past, take_more, take_all, take-append-drop}
 use Rattle.std.proofs.lemmas.Bool.{cases_eq}
 use Rattle.gaze.proofs.Tests.{both_true, same_test, at_or_below}
@@ -196,6 +196,37 @@ module _ (features : List Feature) (t : Feature) (i : ℕ) (last : List (List �
           (cases_eq class here_class))
           (λ ne. rw (entry_other kind class (λ same _. ne same)) (p.low kind class k e (omega arith) l))
           (cases_eq kind here.kind)
+
+-- ---- no entry lies beyond the target, so none beyond END or beyond a feature that stands behind the target
+-- nothing stands between a feature and itself
+nowhere : (kind class : ℕ) (t f : Feature) → stands kind class t t f ≡ false
+nowhere kind class t f =
+    ⊎_elim
+    (λ h. rw (le-ltb f.position t.position h) (never (eqb f.kind kind) (eqb (f.position % 3) class) (ltb t.position f.position)))
+    (λ h. rw (le-ltb t.position f.position (omega arith)) (never (eqb f.kind kind) (eqb (f.position % 3) class) true))
+    (at_or_below t.position f.position)
+
+none_stands : (kind class : ℕ) (t : Feature) (l : List Feature) → some_of (stands kind class t t) l ≡ false
+unfolding some_of
+none_stands kind class t [] = refl
+none_stands kind class t (f ∷ l) = rw (nowhere kind class t f) (none_stands kind class t l)
+
+module _ (features : List Feature) (t : Feature) (i : ℕ) (last : List (List ℕ)) (p : SeenTo features t i last) where
+  pub low_to_target : (kind class : ℕ) → entry last kind class ≤ t.position
+  low_to_target kind class =
+      ⊎_elim
+      (λ past. nothing (ap (λ (row : List ℕ). get_or row class 0) (get_or_past last kind [] (rw p.types past)) ∙ get_or_past [] class 0 (omega arith)))
+      (λ h. ⊎_elim
+      (λ past. nothing (get_or_past (get_or last kind []) class 0 (rw (p.classes kind h) past)))
+      (λ l. ltb-false t.position (entry last kind class) (p.is kind class t h l ∙ none_stands kind class t (take i features)))
+      (at_or_below 3 class))
+      (at_or_below 32 kind)
+    where
+      nothing : {n : ℕ} → n ≡ 0 → n ≤ t.position
+      nothing e = omega arith
+
+  pub low_to_end : (kind class : ℕ) (end : Feature) → t.position ≤ end.position → entry last kind class ≤ end.position
+  low_to_end kind class end h = omega (arith, low_to_target kind class)
 
 -- all before the target are looked at, and the others do not stand before it
 pub seen_all : (features : List Feature) (t : Feature) (n i : ℕ) (last : List (List ℕ)) → length (take n features) ≤ i → SeenTo (take n features) t i last

@@ -3,17 +3,16 @@
 use mathlib.Core.Path.{◌≡◌, refl, sym, ap, ◌∙◌}
 use mathlib.Core.Bool.{Bool, true, false, ◌&&◌}
 use mathlib.Core.List.{List}
-use Prim.Native.Nat.{ℕ, ◌<◌}
-use lib.Dec.{eqb}
+use Prim.Native.Nat.{ℕ, ◌≤◌, ◌<◌}
 use lib.ListN.{get_or}
 use Rattle.gaze.specs.declared.Segment.{Segment}
 use Rattle.gaze.specs.declared.Qualifier.{Qualifier}
 use Rattle.gaze.specs.Lists.{keep}
-use Rattle.gaze.specs.Ranges.{QualifierRanges}
-use Rattle.gaze.specs.SegmentScore.{meets_phase, meets_match, asked, chosen, segment_score}
+use Rattle.gaze.specs.SegmentScore.{meets_match, chosen, segment_score}
 use Rattle.gaze.proofs.ListLaws.{keep_same, keep_all, keep_twice}
 use Rattle.rows.specs.Rows.{scored}
 use Rattle.segment.specs.Choice.{fits}
+use Rattle.segment.proofs.Chosen.{chosen_is}
 use Rattle.slots.specs.Slots.{slot_of, in_slot, slots_of, slot_in, starts_at, ends_at, ending}
 use Rattle.slots.proofs.Classes.{slot_low, slot_fits}
 use Rattle.slots.proofs.Grouping.{slot_listed}
@@ -27,10 +26,6 @@ and_turned : (a b : Bool) → a && b ≡ b && a
 and_turned true b = sym (and_true b)
 and_turned false true = refl
 and_turned false false = refl
-
-and_grouped : (a b c : Bool) → a && (b && c) ≡ (a && b) && c
-and_grouped true b c = refl
-and_grouped false b c = refl
 
 module _ (s t : ℕ) (l : List Segment) where
   match_0 : keep (meets_match 0 s t) l ≡ l
@@ -55,37 +50,35 @@ ending_at used t slots j low is_used =
     slot_listed (λ j. keep (λ g. get_or used j false && ends_at t g) (slot_in slots j)) j low ∙ rw is_used refl
 
 -- ---- a Q line, and the rows of the slot that it asks for
-module _ {slots : List (List Segment)} (segments : List Segment) (held : slots ≡ slots_of segments) (q : Qualifier) (ranged : QualifierRanges q) (s t : ℕ) where
-  abbrev asked_slot : ℕ
-  asked_slot = slot_of q.kind q.phase t
+module _ {slots : List (List Segment)} (segments : List Segment) (held : slots ≡ slots_of segments) (q : Qualifier) (kind_low : q.kind ≤ 15) (phase_low : q.phase ≤ 3) (s t : ℕ)
+  where
+    abbrev asked_slot : ℕ
+    asked_slot = slot_of q.kind q.phase t
 
-  slot_rows : slot_in slots asked_slot ≡ keep (fits q.kind q.phase t) segments
-  unfolding slots_of
-  slot_rows =
-      ap (λ (l : List (List Segment)). slot_in l asked_slot) held
-      ∙ (slot_listed (λ j. keep (in_slot j) segments) asked_slot (slot_low q.kind q.phase t ranged.kind)
-      ∙ sym (keep_same (fits q.kind q.phase t) (in_slot asked_slot) segments (λ g. slot_fits q.kind q.phase t g ranged.phase)))
+    slot_rows : slot_in slots asked_slot ≡ keep (fits q.kind q.phase t) segments
+    unfolding slots_of
+    slot_rows =
+        ap (λ (l : List (List Segment)). slot_in l asked_slot) held
+        ∙ (slot_listed (λ j. keep (in_slot j) segments) asked_slot (slot_low q.kind q.phase t kind_low)
+        ∙ sym (keep_same (fits q.kind q.phase t) (in_slot asked_slot) segments (λ g. slot_fits q.kind q.phase t g phase_low)))
 
-  chosen_is : chosen q s t segments ≡ keep (meets_match q.matching s t) (slot_in slots asked_slot)
-  chosen_is =
-      keep_same (asked q s t) (λ g. fits q.kind q.phase t g && meets_match q.matching s t g) segments
-      (λ g. and_grouped (eqb g.kind q.kind) (meets_phase q.phase t g) (meets_match q.matching s t g))
-      ∙ (sym (keep_twice (fits q.kind q.phase t) (meets_match q.matching s t) segments) ∙ ap (keep (meets_match q.matching s t)) (sym slot_rows))
+    chosen_in_slot : chosen q s t segments ≡ keep (meets_match q.matching s t) (slot_in slots asked_slot)
+    chosen_in_slot = chosen_is q s t segments ∙ ap (keep (meets_match q.matching s t)) (sym slot_rows)
 
-  by_match : (m : ℕ) (l : List Segment) → q.matching ≡ m → keep (meets_match m s t) (slot_in slots asked_slot) ≡ l
-      → scored q.method s t l ≡ segment_score q s t segments
-  by_match m l h e = ap (scored q.method s t) (sym (chosen_is ∙ (ap (λ (x : ℕ). keep (meets_match x s t) (slot_in slots asked_slot)) h ∙ e)))
+    by_match : (m : ℕ) (l : List Segment) → q.matching ≡ m → keep (meets_match m s t) (slot_in slots asked_slot) ≡ l
+        → scored q.method s t l ≡ segment_score q s t segments
+    by_match m l h e = ap (scored q.method s t) (sym (chosen_in_slot ∙ (ap (λ (x : ℕ). keep (meets_match x s t) (slot_in slots asked_slot)) h ∙ e)))
 
-  pub score_any : q.matching ≡ 0 → scored q.method s t (slot_in slots (slot_of q.kind q.phase t)) ≡ segment_score q s t segments
-  score_any h = by_match 0 _ h (match_0 s t _)
+    pub score_any : q.matching ≡ 0 → scored q.method s t (slot_in slots (slot_of q.kind q.phase t)) ≡ segment_score q s t segments
+    score_any h = by_match 0 _ h (match_0 s t _)
 
-  pub score_from_source : q.matching ≡ 1 → scored q.method s t (keep (starts_at s) (slot_in slots (slot_of q.kind q.phase t))) ≡ segment_score q s t segments
-  score_from_source h = by_match 1 _ h (match_1 s t _)
+    pub score_from_source : q.matching ≡ 1 → scored q.method s t (keep (starts_at s) (slot_in slots (slot_of q.kind q.phase t))) ≡ segment_score q s t segments
+    score_from_source h = by_match 1 _ h (match_1 s t _)
 
-  -- where the slot is narrowed to the target
-  module _ (narrowed : List (List Segment)) (near : slot_in narrowed (slot_of q.kind q.phase t) ≡ keep (ends_at t) (slot_in slots (slot_of q.kind q.phase t))) where
-    pub score_to_target : q.matching ≡ 2 → scored q.method s t (slot_in narrowed (slot_of q.kind q.phase t)) ≡ segment_score q s t segments
-    score_to_target h = by_match 2 _ h (match_2 s t _ ∙ sym near)
+    -- where the slot is narrowed to the target
+    module _ (narrowed : List (List Segment)) (near : slot_in narrowed (slot_of q.kind q.phase t) ≡ keep (ends_at t) (slot_in slots (slot_of q.kind q.phase t))) where
+      pub score_to_target : q.matching ≡ 2 → scored q.method s t (slot_in narrowed (slot_of q.kind q.phase t)) ≡ segment_score q s t segments
+      score_to_target h = by_match 2 _ h (match_2 s t _ ∙ sym near)
 
-    pub score_both : q.matching ≡ 3 → scored q.method s t (keep (starts_at s) (slot_in narrowed (slot_of q.kind q.phase t))) ≡ segment_score q s t segments
-    score_both h = by_match 3 _ h (match_3 s t _ ∙ ap (keep (starts_at s)) (sym near))
+      pub score_both : q.matching ≡ 3 → scored q.method s t (keep (starts_at s) (slot_in narrowed (slot_of q.kind q.phase t))) ≡ segment_score q s t segments
+      score_both h = by_match 3 _ h (match_3 s t _ ∙ ap (keep (starts_at s)) (sym near))

@@ -1,7 +1,7 @@
 -- Segments by slot. Of what a Q line asks, a type and a phase depend on no source position, and the phase only on the remainder of a segment's start:
 -- for phase 0, 1 and 2 a class 0 to 2, for phase 3 class 3, which holds all. Slot 4 k + c is class c of type k, so there are 64.
 use Rattle.std.specs.List.Sorted.{IsNonDecreasingBy}
-use Rattle.std.specs.Prelude.{◌≡◌, Bool, true, false, cond, ◌&&◌, List, [], ℕ, ◌+◌, ◌*◌, ◌/◌, ◌%◌, eqb, get_or}
+use Rattle.std.specs.Prelude.{◌≡◌, Bool, true, false, cond, ◌&&◌, List, [], ℕ, ◌+◌, ◌*◌, ◌/◌, ◌%◌, eqb, get_or, length}
 use Rattle.gaze.specs.declared.Segment.{Segment}
 use Rattle.gaze.specs.Lists.{keep, listed}
 use Rattle.segment.specs.Choice.{fits}
@@ -16,6 +16,7 @@ slot_of kind phase t = 4 * kind + class_of phase t
 
 -- Marks of the slots that a type and a phase can ask for, beside those that were there.
 pub record Marked (kind phase : ℕ) (used₀ used : List Bool) : Type 0 where
+  pub long : length used ≡ length used₀
   pub marked : (t : ℕ) → get_or used (slot_of kind phase t) false ≡ true
   pub kept : (j : ℕ) → get_or used₀ j false ≡ true → get_or used j false ≡ true
 

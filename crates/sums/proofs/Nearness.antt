@@ -1,7 +1,8 @@
 -- Among many segments that give 0 one is as good as all. So of the segments that end before a base all but one can be dropped, for every base from there on at
 -- once; and those that start behind a base do not matter there but for the first.
 use Rattle.std.proofs.Common.{◌≡◌, refl, sym, ap, ◌∙◌, arith, take-append-drop, get_or-drop, get_or-take, length-take, take_all, append_assoc, length-append, length-drop, leb-false}
-use Rattle.std.proofs.lemmas.List.{take_more}
+use Rattle.std.specs.List.{AllWithin}
+use Rattle.std.proofs.lemmas.List.{take_more, get_or_default}
 use Rattle.std.specs.Prelude.{Bool, true, false, cond, not, ◌&&◌, ◌||◌, List, [], ◌∷◌, ◌++◌, ℕ, zero, suc, ◌+◌, ◌-◌, ◌≤◌, ◌<◌, leb, ℤ, pos, Option, Some, None, length, get_or, take, drop}
 use Rattle.std.specs.List.Retain.{RetainsInTurn}
 use borrow.Author.Tests.{lt-leb}
@@ -97,21 +98,33 @@ module _ {F : Type 0} (R : F → Segment → Bool → F → Segment → Type 0) 
 
 -- ---- segments that are opened
 -- the first of those that start behind a base is as good as all
-first_enough : (x n : ℕ) (g : Segment) (segments : List Segment) → Rising segments → n < length segments → g ≡ get_or segments n g → x < g.start
+pub first_enough : (x n : ℕ) (g : Segment) (segments : List Segment) → n < length segments → g ≡ get_or segments n g
+    → AllWithin (λ f. x < f.start) segments n (length segments)
     → largest_rate (take (n + 1) segments) x ≡ largest_rate segments x
-first_enough x n g segments rising h is u =
+first_enough x n g segments h is behind =
     let some = take (n + 1) segments in
     let rest = drop (n + 1) segments in
     let one : get_or some n g ≡ g = get_or-take (n + 1) segments n g (omega arith) ∙ sym is in
-    let zeroed : Zeroed (top x some) = zeroed_at x g some n (rw (length-take (n + 1) segments) (omega arith)) (rw one (rate_before x g u)) in
+    let zeroed : Zeroed (top x some) = zeroed_at x g some n (rw (length-take (n + 1) segments) (omega arith)) (rw one (rate_before x g later_start)) in
     let none : join (top x some) (top x rest) ≡ top x some = idle_added x g (top x some) rest zeroed (λ i l. later i (omega (arith, l, length-drop (n + 1) segments))) in
     largest_is some x ∙ (ap value (sym none ∙ sym (top_joined x some rest)) ∙ (sym (largest_is (some ++ rest) x) ∙ ap (λ (l : List Segment). largest_rate l x) (take-append-drop (n + 1) segments)))
   where
-    later : (i : ℕ) → n + 1 + i < length segments → rate_at x (get_or (drop (n + 1) segments) i g) ≡ pos 0
-    later i l =
-        let behind = rising n (n + 1 + i) g (omega arith) l in
+    later_start : x < g.start
+    later_start =
         let e : (get_or segments n g).start ≡ g.start = ap (λ (f : Segment). f.start) (sym is) in
-        rw (get_or-drop (n + 1) segments i g) (rate_before x (get_or segments (n + 1 + i) g) (omega arith))
+        let b = behind n g (omega arith) h in
+        omega arith
+
+    later : (i : ℕ) → n + 1 + i < length segments → rate_at x (get_or (drop (n + 1) segments) i g) ≡ pos 0
+    later i l = rw (get_or-drop (n + 1) segments i g) (rate_before x (get_or segments (n + 1 + i) g) (behind (n + 1 + i) g (omega arith) l))
+
+-- where one starts behind a base and the starts rise, all from it on do
+all_later : (x n : ℕ) (g : Segment) (segments : List Segment) → Rising segments → n < length segments → g ≡ get_or segments n g → x < g.start
+    → AllWithin (λ f. x < f.start) segments n (length segments)
+all_later x n g segments rising h is u i d k l =
+    let first : g.start ≡ (get_or segments n d).start = ap (λ (f : Segment). f.start) (is ∙ get_or_default segments n g d h) in
+    let behind = rising n i d k l in
+    omega arith
 
 -- what stands at i of those from n on
 pub at_rest : (n : ℕ) (l : List Segment) (i : ℕ) (g : Segment) → i < length (take (length l - n) (drop n l)) → g ≡ get_or (take (length l - n) (drop n l)) i g
@@ -133,5 +146,5 @@ module _ (segments : List Segment) {from : ℕ} {window : Window} (q : Opened se
         alike = λ x u more.
             rw (rows, next, take_more segments window.next g h, ← is, append_assoc window.rows.items (g ∷ []) more, append_assoc (take window.next segments) (g ∷ []) more)
             (q.alike x u (g ∷ more));
-        enough = λ x u. rw next (first_enough x window.next g segments rising h is (omega arith));
+        enough = λ x u. rw next (first_enough x window.next g segments h is (all_later x window.next g segments rising h is (omega arith)));
       }

@@ -3,7 +3,7 @@ use Rattle.std.proofs.Common.{◌≡◌, refl, arith}
 use Rattle.std.proofs.lemmas.List.{get_or-replicate, length-replicate}
 use mathlib.Core.Logic.{◌⊎◌, inl, inr, ⊎_elim}
 use lib.ListN.{get_or-eq_default}
-use Rattle.std.specs.Prelude.{Bool, true, false, List, [], ◌≤◌, ◌<◌, length, get_or, replicate}
+use Rattle.std.specs.Prelude.{ℕ, Bool, true, false, List, [], ◌≤◌, ◌<◌, length, get_or, replicate}
 use Rattle.gaze.specs.declared.Feature.{Feature}
 use Rattle.gaze.specs.declared.Segment.{Segment}
 use Rattle.gaze.proofs.ListLaws.{repeated}
@@ -14,14 +14,17 @@ use Rattle.sums.specs.Table.{nothing, Filled, Kept, SmallSum, Small}
 none_small : SmallSum nothing
 none_small = record { before = omega arith; along = omega arith }
 
-pub small_empty : Small (replicate 64 (replicate 1026 nothing))
-small_empty j i = ⊎_elim outside inside (at_or_below 64 j)
+pub small_nothing : (rows sums : ℕ) → Small (replicate rows (replicate sums nothing))
+small_nothing rows sums j i = ⊎_elim outside inside (at_or_below rows j)
   where
-    outside : 64 ≤ j → SmallSum (get_or (get_or (replicate 64 (replicate 1026 nothing)) j []) i nothing)
-    outside h = rw (get_or-eq_default (replicate 64 (replicate 1026 nothing)) [] {n = j} (rw length-replicate h)) none_small
+    outside : rows ≤ j → SmallSum (get_or (get_or (replicate rows (replicate sums nothing)) j []) i nothing)
+    outside h = rw (get_or-eq_default (replicate rows (replicate sums nothing)) [] {n = j} (rw length-replicate h)) none_small
 
-    inside : j < 64 → SmallSum (get_or (get_or (replicate 64 (replicate 1026 nothing)) j []) i nothing)
-    inside h = rw (get_or-replicate 64 j (replicate 1026 nothing) [] h, repeated 1026 nothing i) none_small
+    inside : j < rows → SmallSum (get_or (get_or (replicate rows (replicate sums nothing)) j []) i nothing)
+    inside h = rw (get_or-replicate rows j (replicate sums nothing) [] h, repeated sums nothing i) none_small
+
+pub small_empty : Small (replicate 64 (replicate 1026 nothing))
+small_empty = small_nothing 64 1026
 
 pub small_filled : {summed : List Bool} {slots : List (List Segment)} {candidates : List Feature} {table₀ table : List (List Sum)} → length summed ≡ 64
     → Filled summed slots candidates table → Kept summed candidates table₀ table → Small table₀ → Small table

@@ -1,11 +1,15 @@
 -- The running sum of the largest rates, and how large it can be.
 use Rattle.std.proofs.Common.{◌≡◌, refl, sym, ap, ◌∙◌, arith}
 use native.Mathlib.Nat.{mul-le-mul_right}
-use Rattle.std.specs.Prelude.{List, ℕ, ◌-◌, ◌*◌, ◌≤◌, ◌<◌, ℤ, pos, nat_abs, ◌+ℤ◌, ◌-ℤ◌, ◌*ℤ◌}
+use Rattle.std.specs.Prelude.{List, map, ℕ, ◌-◌, ◌*◌, ◌≤◌, ◌<◌, ℤ, pos, nat_abs, ◌+ℤ◌, ◌-ℤ◌, ◌*ℤ◌}
 use Rattle.whole.proofs.Order.{+ℤ_drop_first}
 use Rattle.whole.proofs.Size.{abs_sum, abs_mul}
 use Rattle.gaze.specs.declared.Segment.{Segment}
-use Rattle.gaze.specs.SegmentScore.{largest_rate, sum_over}
+use Rattle.gaze.specs.Lists.{Each, keep}
+use Rattle.gaze.specs.Ranges.{Thousandths}
+use Rattle.gaze.specs.SegmentScore.{enters, rate_at, largest_rate, sum_over}
+use Rattle.gaze.proofs.Bounds.{largest_size, rate_size, sum_over_size}
+use Rattle.gaze.proofs.ListLaws.{each_kept, each_mapped}
 use Rattle.sums.specs.Table.{upto}
 use Rattle.rows.proofs.Bases.{sum_joined, sum_flat}
 
@@ -25,6 +29,18 @@ pub size_on : (sum z : ℤ) (at p : ℕ) → 1 ≤ at → at ≤ p → nat_abs s
     → nat_abs (sum +ℤ z *ℤ pos (p - at)) ≤ (p - 1) * 10000000000
 size_on sum z at p h k s v =
     omega (arith, abs_sum sum (z *ℤ pos (p - at)), abs_mul z (p - at), mul-le-mul_right (p - at) v)
+
+-- no sum over the longest sequence is beyond this
+pub upto_small : (segments : List Segment) (at : ℕ) → Each (λ g. Thousandths g.score) segments → at ≤ 4000002 → nat_abs (upto segments at) ≤ 40000010000000000
+upto_small segments at scores h =
+    let few : at - 1 ≤ 4000001 = omega arith in
+    omega (arith, sum_over_size (largest_rate segments) 1 (at - 1) 10000000000 small, mul-le-mul_right 10000000000 few)
+  where
+    small : (x : ℕ) → nat_abs (largest_rate segments x) ≤ 10000000000
+    small x =
+        largest_size 10000000000 (map (rate_at x) (keep (enters x x) segments))
+        (each_mapped (λ g. Thousandths g.score) (λ z. nat_abs z ≤ 10000000000) (rate_at x) (keep (enters x x) segments) (rate_size x)
+        (each_kept (λ g. Thousandths g.score) (enters x x) segments scores))
 
 -- what one sum has more than an earlier one
 pub difference : (segments : List Segment) (p q : ℕ) → 1 ≤ p → p ≤ q → upto segments q -ℤ upto segments p ≡ sum_over (largest_rate segments) p (q - p)

@@ -21,7 +21,7 @@ loop-k-init c = walked_none c.args.sheet.now c.args.chain.now
 pub step_between-requires-clause-rises : goal.step_between-requires-clause-rises
 step_between-requires-clause-rises c =
     let chain = chain_of_sheet c.of-prepared.ensures.ranged (rw c.of-prepared.ensures.value at c.candidates-candidates.ensures.value) c.is_chain.ensures.sound c.if-not-is_chain.false in
-    source_before c.of-prepared.ensures.ranged chain c.loop-k.k c.loop-k.auto.k c.loop-k-test.true
+    source_before chain c.loop-k.k c.loop-k.auto.k c.loop-k-test.true
 
 pub step_between-requires-clause-to_end : goal.step_between-requires-clause-to_end
 step_between-requires-clause-to_end c =
@@ -36,7 +36,7 @@ returns-in_err-gain c =
     let p = err_from_is_err_and c.from_residual.result c.from_residual.ensures.1 in
     rw (p.1, p.2, bad) (
       chain,
-      breaks_here c.of-prepared.ensures.ranged chain c.loop-k.invariant c.loop-k.auto.k c.loop-k-test.true
+      breaks_here c.loop-k.invariant c.loop-k.auto.k c.loop-k-test.true
           (sym none ∙ (rw c.of-prepared.ensures.value at c.step_between.ensures)),
     )
 
@@ -44,19 +44,17 @@ pub plus-score-requires : goal.plus-score-requires
 plus-score-requires c =
     let chain = chain_of_sheet c.of-prepared.ensures.ranged (rw c.of-prepared.ensures.value at c.candidates-candidates.ensures.value) c.is_chain.ensures.sound c.if-not-is_chain.false in
     let some = sym c.in_ok-gain.ensures.ok_part ∙ (rw c.of-prepared.ensures.value at c.step_between.ensures) in
-    let small = gained_small c.of-prepared.ensures.ranged chain c.loop-k.invariant c.loop-k.auto.k c.loop-k-test.true some in
-    rw (small_back c.in_ok-gain.gain (2 ^ 50) small (omega arith))
-    (walked_fits c.of-prepared.ensures.ranged chain c.loop-k.invariant c.loop-k.auto.k c.loop-k-test.true some)
+    let small = gained_small c.of-prepared.ensures.ranged _ _ some in
+    rw (small_back c.in_ok-gain.gain (2 ^ 50) small (omega arith)) (walked_fits c.of-prepared.ensures.ranged chain c.loop-k.invariant c.loop-k-test.true _ small)
 
 pub loop-k-preserved : goal.loop-k-preserved
 loop-k-preserved c =
-    let chain = chain_of_sheet c.of-prepared.ensures.ranged (rw c.of-prepared.ensures.value at c.candidates-candidates.ensures.value) c.is_chain.ensures.sound c.if-not-is_chain.false in
     let some = sym c.in_ok-gain.ensures.ok_part ∙ (rw c.of-prepared.ensures.value at c.step_between.ensures) in
-    let small = gained_small c.of-prepared.ensures.ranged chain c.loop-k.invariant c.loop-k.auto.k c.loop-k-test.true some in
-    walked_more c.of-prepared.ensures.ranged chain c.loop-k.invariant c.loop-k.auto.k c.loop-k-test.true some
+    let small = gained_small c.of-prepared.ensures.ranged _ _ some in
+    walked_more c.loop-k.invariant c.loop-k.auto.k c.loop-k-test.true some small
     (back c.plus-score.result c.plus-score.type_inv ∙ (rw (small_back c.in_ok-gain.gain (2 ^ 50) small (omega arith)) at c.plus-score.ensures))
 
 pub returns : goal.returns
 returns c =
     let chain = chain_of_sheet c.of-prepared.ensures.ranged (rw c.of-prepared.ensures.value at c.candidates-candidates.ensures.value) c.is_chain.ensures.sound c.if-not-is_chain.false in
-    walked_all c.of-prepared.ensures.ranged chain c.loop-k.invariant c.loop-k-test.false
+    walked_all c.loop-k.invariant chain c.loop-k-test.false

@@ -1,4 +1,4 @@
-use Rattle.std.proofs.Common.{List, map, ap, arith}
+use Rattle.std.proofs.Common.{List, map, get_or, ap, arith}
 use mathlib.Core.Path.{◌∙◌}
 use lib.Seq.{take_all}
 use Rattle.whole.specs.Whole.{sum_of}
@@ -44,14 +44,14 @@ plus-sum-requires c =
     let a = c.args in
     let z = c.line_score-score in
     sum_fits (worth a.self.now a.source a.target) c.of_types-lines.result.now c.loop-q.q-index _ c.loop-q-test.true _ c.loop-q.invariant.1
-    (back z.result z.type_inv ∙ z.ensures) (line_small c.requires.held a.source c.requires.ordered) c.of_types-lines.ensures.few
+    (back z.result z.type_inv ∙ z.ensures) (line_small c.requires.held a.source c.requires.ordered (get_or c.of_types-lines.result.now c.loop-q.q-index _)) c.of_types-lines.ensures.few
 
 pub loop-q-preserved : goal.loop-q-preserved
 loop-q-preserved c =
     let a = c.args in
     let z = c.line_score-score in
     sum_more (worth a.self.now a.source a.target) c.of_types-lines.result.now c.loop-q.q-index _ c.loop-q-test.true _ c.loop-q.invariant.1
-    (back z.result z.type_inv ∙ z.ensures) (line_small c.requires.held a.source c.requires.ordered)
+    (back z.result z.type_inv ∙ z.ensures) (line_small c.requires.held a.source c.requires.ordered (get_or c.of_types-lines.result.now c.loop-q.q-index _))
     (back c.plus-sum.result c.plus-sum.type_inv ∙ c.plus-sum.ensures) c.loop-q.invariant.0
 
 pub returns-clause-value : goal.returns-clause-value
