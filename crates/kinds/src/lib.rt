@@ -32,10 +32,6 @@ pub trait Line: Copy + Default {
 
     ghost keys: { Self → List ℕ };
 
-    // How many lines the group may have at most.
-    fn most() -> usize
-        ensures { result ≡ most_of letter };
-
     // What a line says, by its bytes without the LF, in a sequence of so many bases.
     fn read(bytes: &[u8], bases: u32) -> Result<Self, Reason>
         ensures { result ≡ line_of letter of bases bytes.now };
@@ -43,6 +39,12 @@ pub trait Line: Copy + Default {
     // How a line stands to the next one.
     fn order(&self, next: &Self) -> Ordering
         ensures { result ≡ order (keys self.now) (keys next.now) };
+}
+
+// A line that says how many lines its group may have at most. A trait of its own, since a vector that has room for just so many says it by its capacity.
+pub trait Limited: Line {
+    fn most() -> usize
+        ensures { result ≡ most_of Self.letter };
 }
 
 // The numbers of a line with this letter and `N` fields, with a space before each.
@@ -59,16 +61,18 @@ impl Line for Length {
 
     ghost keys = { length_keys };
 
-    fn most() -> usize {
-        1
-    }
-
     fn read(bytes: &[u8], _bases: u32) -> Result<Length, Reason> {
         length_of(numbers(bytes, b'L')?).ok_or(Reason::Range)
     }
 
     fn order(&self, _next: &Length) -> Ordering {
         Ordering::Equal
+    }
+}
+
+impl Limited for Length {
+    fn most() -> usize {
+        1
     }
 }
 
@@ -79,16 +83,18 @@ impl Line for Point {
 
     ghost keys = { point_keys };
 
-    fn most() -> usize {
-        512
-    }
-
     fn read(bytes: &[u8], _bases: u32) -> Result<Point, Reason> {
         point_of(numbers(bytes, b'P')?).ok_or(Reason::Range)
     }
 
     fn order(&self, next: &Point) -> Ordering {
         [self.function, self.distance].cmp(&[next.function, next.distance])
+    }
+}
+
+impl Limited for Point {
+    fn most() -> usize {
+        512
     }
 }
 
@@ -99,16 +105,18 @@ impl Line for Rule {
 
     ghost keys = { rule_keys };
 
-    fn most() -> usize {
-        256
-    }
-
     fn read(bytes: &[u8], _bases: u32) -> Result<Rule, Reason> {
         rule_of(numbers(bytes, b'R')?).ok_or(Reason::Range)
     }
 
     fn order(&self, next: &Rule) -> Ordering {
         [self.source, self.target].cmp(&[next.source, next.target])
+    }
+}
+
+impl Limited for Rule {
+    fn most() -> usize {
+        256
     }
 }
 
@@ -119,16 +127,18 @@ impl Line for Qualifier {
 
     ghost keys = { qualifier_keys };
 
-    fn most() -> usize {
-        256
-    }
-
     fn read(bytes: &[u8], _bases: u32) -> Result<Qualifier, Reason> {
         qualifier_of(numbers(bytes, b'Q')?).ok_or(Reason::Range)
     }
 
     fn order(&self, next: &Qualifier) -> Ordering {
         [self.source, self.target, self.kind].cmp(&[next.source, next.target, next.kind])
+    }
+}
+
+impl Limited for Qualifier {
+    fn most() -> usize {
+        256
     }
 }
 
@@ -139,16 +149,18 @@ impl Line for Feature {
 
     ghost keys = { feature_keys };
 
-    fn most() -> usize {
-        1024
-    }
-
     fn read(bytes: &[u8], bases: u32) -> Result<Feature, Reason> {
         feature_of(numbers(bytes, b'F')?, bases).ok_or(Reason::Range)
     }
 
     fn order(&self, next: &Feature) -> Ordering {
         [self.position, self.kind].cmp(&[next.position, next.kind])
+    }
+}
+
+impl Limited for Feature {
+    fn most() -> usize {
+        1024
     }
 }
 
@@ -159,16 +171,18 @@ impl Line for Segment {
 
     ghost keys = { segment_keys };
 
-    fn most() -> usize {
-        1024
-    }
-
     fn read(bytes: &[u8], bases: u32) -> Result<Segment, Reason> {
         segment_of(numbers(bytes, b'S')?, bases).ok_or(Reason::Range)
     }
 
     fn order(&self, next: &Segment) -> Ordering {
         [self.start, self.end, self.kind].cmp(&[next.start, next.end, next.kind])
+    }
+}
+
+impl Limited for Segment {
+    fn most() -> usize {
+        1024
     }
 }
 

@@ -11,14 +11,14 @@ ghost use Rattle.sheet.specs.Reading.{bases_of, group_at, of_groups, reading};
 
 use arrayvec::ArrayVec;
 use gaze::{Feature, Point, Qualifier, Rule, Segment, Sheet};
-use group::{Placed, read_group};
-use kinds::{Length, Line};
+use group::{Placed, read_group_into};
+use kinds::{Length, Limited};
 use links::{find_points, find_rules};
 use refusal::{Reason, Refusal};
 use trailer::{Trailer, read_trailer};
 
 // The group that stands from one place up to another, in a sequence of so many bases.
-fn group_at<L: Line, const N: usize>(
+fn group_at<L: Limited, const N: usize>(
     bytes: &[u8],
     from: usize,
     to: usize,
@@ -29,7 +29,7 @@ fn group_at<L: Line, const N: usize>(
     ensures { items_of result ≡ group_at L.letter L.of L.keys bases bytes.now from to }
 {
     let mut group = ArrayVec::new();
-    read_group(&bytes[from..to], from, bases, &mut group)?;
+    read_group_into(&bytes[from..to], from, bases, &mut group)?;
     Ok(group)
 }
 

@@ -1,8 +1,8 @@
--- `read_group` is right because it reads line after line and stops at the first that is refused. The lines up to `place` are read, and are in the group.
+-- `read_lines` is right because it reads line after line and stops at the first that is refused. The lines up to `place` are read, and are in the group.
 use Rattle.std.proofs.Common.{◌≡◌, ◌+◌, ◌-◌, [], length, drop}
 use Rattle.text.specs.Lines.{lines}
 use Rattle.group.specs.Group.{read, lines_before}
-use Rattle.group.proofs.read_group.Given as goal
+use Rattle.group.proofs.read_lines.Given as goal
 
 abbrev pub invariant-loop-place : goal.invariant-loop-place
 invariant-loop-place g l =
